@@ -2,7 +2,8 @@
 use Rattle.std.proofs.Common.{◌≡◌, ℕ, Bool, true, false, ◌||◌, ◌&&◌, cond, List, [], ◌∷◌, Option, Some, None, codes, find, is_some, refl, ap, ◌∙◌}
 use Rattle.std.specs.List.{AllByRecursion, list_all}
 use Rattle.std.specs.Option.{option_map_or}
-use Rattle.std.proofs.lemmas.Bool.{or_parts, and_parts, and_from}
+use Rattle.std.proofs.lemmas.Bool.{or_parts, and_parts, and_from, or_from}
+use Rattle.uu_names.proofs.Basics.{cond_none}
 use Rattle.sqlite.specs.Schema.{Schema}
 use Rattle.sqlite.specs.Table.{Table}
 use Rattle.sqlite_rules.proofs.ListLemmas.{some_has, some_from}
@@ -21,13 +22,9 @@ free_none : (name : List ℕ) (tables : List Table) → AllByRecursion (λ (tabl
 free_none name [] free = refl
 free_none name (table ∷ tables) free = rw free.0 (free_none name tables free.1)
 
-first_no : {X : Type 0} (b : Bool) (x : X) (o : Option X) → cond b (Some x) o ≡ None → (b ≡ false) × (o ≡ None)
-first_no false x o none = (refl, none)
-first_no true x o none = absurd (cc)
-
 none_free : (name : List ℕ) (tables : List Table) → find (λ t. same_name t.name name) tables ≡ None → AllByRecursion (λ (table : Table). same_name table.name name ≡ false) tables
 none_free name [] none = tt
-none_free name (table ∷ tables) none = let first = first_no (same_name table.name name) table (find (λ t. same_name t.name name) tables) none in (first.0, none_free name tables first.1)
+none_free name (table ∷ tables) none = let first = cond_none (same_name table.name name) table (find (λ t. same_name t.name name) tables) none in (first.0, none_free name tables first.1)
 
 untaken : (o : Option Table) → is_some o ≡ false → o ≡ None
 untaken None is = refl
@@ -112,16 +109,11 @@ nine a b c d e f g h i is =
     let last = or_parts h i parts.1 in
     (first.0, first.1, first.2, first.3, first.4, first.5, first.6, last.0, last.1)
 
-neither : (a b : Bool) → a ≡ false → b ≡ false → (a || b) ≡ false
-neither false false x y = refl
-neither true b x y = absurd (cc)
-neither false true x y = absurd (cc)
-
 -- ---- none of the tables
 
 module _ (schema : Schema) where
   links_free : IsNameFree schema (codes "links") → IsNameFree schema (codes "taken") → is_link_name_used schema ≡ false
-  links_free a b = neither (is_name_used schema (codes "links")) (is_name_used schema (codes "taken")) (not_taken schema (codes "links") a) (not_taken schema (codes "taken") b)
+  links_free a b = or_from (is_name_used schema (codes "links")) (is_name_used schema (codes "taken")) (not_taken schema (codes "links") a) (not_taken schema (codes "taken") b)
 
   free_links : is_link_name_used schema ≡ false → IsNameFree schema (codes "links") × IsNameFree schema (codes "taken")
   free_links is = let it = or_parts (is_name_used schema (codes "links")) (is_name_used schema (codes "taken")) is in (free schema (codes "links") it.0, free schema (codes "taken") it.1)
@@ -133,7 +125,7 @@ module _ (schema : Schema) where
 
   any_free : HasNoName schema → is_any_name_used schema ≡ false
   any_free it =
-      neither _ (is_link_name_used schema) (none_of_seven (is_name_used schema (codes "systems")) (is_name_used schema (codes "lines")) (is_name_used schema (codes "ranges")) (is_name_used schema (codes "jobs")) (is_name_used schema (codes "pieces")) (is_name_used schema (codes "entries")) (is_name_used schema (codes "success_waits"))
+      or_from _ (is_link_name_used schema) (none_of_seven (is_name_used schema (codes "systems")) (is_name_used schema (codes "lines")) (is_name_used schema (codes "ranges")) (is_name_used schema (codes "jobs")) (is_name_used schema (codes "pieces")) (is_name_used schema (codes "entries")) (is_name_used schema (codes "success_waits"))
       (not_taken schema (codes "systems") it.1.0) (not_taken schema (codes "lines") it.1.1.0) (not_taken schema (codes "ranges") it.1.1.1.0) (not_taken schema (codes "jobs") it.1.1.1.1.0) (not_taken schema (codes "pieces") it.1.1.1.1.1.0)
       (not_taken schema (codes "entries") it.1.1.1.1.1.1.0) (not_taken schema (codes "success_waits") it.1.1.1.1.1.1.1.0))
       (links_free it.1.1.1.1.1.1.1.1.0 it.1.1.1.1.1.1.1.1.1.0)

@@ -8,6 +8,7 @@ use Rattle.std.specs.List.Sorted.{IsPermutation}
 use Rattle.std.proofs.lemmas.Bool.{and_parts, lt-ltb, ltb-true}
 use Rattle.std.proofs.lemmas.Int.{ints}
 use Rattle.std.proofs.lemmas.List.Sorted.{IsPermutation-sym, IsPermutation-map}
+use Rattle.uu_names.proofs.Basics.{filter_all}
 use Rattle.sqlite.specs.Order.{Row}
 use Rattle.sqlite.specs.Tree.{IsAscending}
 use Rattle.sqlite.specs.Term.{eval_all}
@@ -26,7 +27,7 @@ use Rattle.uu_rows.specs.Readable.{IsTypedHead}
 use Rattle.uu_tables.specs.Order.{head_cmp}
 use Rattle.uu_rows.proofs.Meanings.{at_places, by_places}
 use Rattle.uu_rows.proofs.Back.{same_all, head_back, head_returns}
-use Rattle.uu_rows.proofs.InTables.{heads_are, all_pass}
+use Rattle.uu_rows.proofs.InTables.{heads_are}
 use Rattle.uu_adopt.specs.declared.integer.Integer.{Integer}
 use Rattle.uu_adopt.proofs.Texts.{heads_text}
 use Rattle.uu_adopt.specs.Reading.{id_cells, AreRowids, AreHeads, AreNumbersRising, FindsRows}
@@ -106,7 +107,7 @@ module _ (v : Version) (a b : db.State) (rows : List Row) (stands : Stands (sche
   ids_moved = subst (λ l. IsPermutation l (map id_shown rows)) (map-map id_shown (columns job_places) table) (IsPermutation-map id_shown _ _ moved)
 
   rows_only : (xs : List JobHead) → IsPermutation (map job_cells xs) (map (columns job_places) table) → IsAscending (λ x y. head_cmp x y ≡ Less) xs → rows ≡ map job_cells xs
-  rows_only xs held rise = heads_are (schema_of v) a b rows stands.schema heads_text _ [] [] h (heads_means v) (λ r. refl) xs held rise (λ x. true) (λ x. refl) ∙ ap (map job_cells) (all_pass xs)
+  rows_only xs held rise = heads_are (schema_of v) a b rows stands.schema heads_text _ [] [] h (heads_means v) (λ r. refl) xs held rise (λ x. true) (λ x. refl) ∙ ap (map job_cells) (filter_all xs)
 
   number_less : (x y : JobHead) → head_cmp x y ≡ Less → x.number < y.number
   number_less x y h = grind (arith)

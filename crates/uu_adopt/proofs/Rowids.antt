@@ -9,6 +9,7 @@ use Rattle.std.proofs.lemmas.Bool.{and_parts, false_from_ne_true}
 use Rattle.std.proofs.lemmas.List.{map-id}
 use Rattle.std.proofs.lemmas.List.Sorted.{IsPermutation-sym}
 use Rattle.std.specs.Cmp.{Equal-is}
+use Rattle.uu_names.proofs.Basics.{lt-int_lt}
 use Rattle.sqlite.specs.declared.types.Value.{Value}
 use Rattle.sqlite.specs.declared.types.Value.TheVariants.{Int}
 use Rattle.sqlite.specs.Order.{Row, column, value_cmp}
@@ -45,9 +46,6 @@ abbrev pub rise : List Integer → Bool
 rise [] = true
 rise (id ∷ ids) = rise_from id.value ids
 
-int_lower : (a b : ℤ) → a <ℤ b → int_lt a b ≡ true
-int_lower a b h = grind (arith, ints)
-
 pub int_is_lower : (a b : ℤ) → int_lt a b ≡ true → a <ℤ b
 int_is_lower a b h = grind (arith, ints)
 
@@ -72,7 +70,7 @@ risen (id ∷ ids) h = risen_from id.value ids h
 
 does_rise_from : (last : ℤ) (ids : List Integer) → AllByRecursion (λ (b : Integer). last <ℤ b.value) ids → IsAscending Below ids → rise_from last ids ≡ true
 does_rise_from last [] h k = refl
-does_rise_from last (id ∷ ids) h k = rw (int_lower last id.value h.0) (does_rise_from id.value ids k.0 k.1)
+does_rise_from last (id ∷ ids) h k = rw (lt-int_lt last id.value h.0) (does_rise_from id.value ids k.0 k.1)
 
 pub does_rise : (ids : List Integer) → IsAscending Below ids → rise ids ≡ true
 does_rise [] h = refl

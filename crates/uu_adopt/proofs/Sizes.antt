@@ -4,6 +4,7 @@ use Rattle.std.specs.declared.alloc.Global.{Global}
 use Rattle.std.specs.List.{AllByRecursion}
 use Rattle.std.specs.List.Sorted.{IsPermutation}
 use Rattle.std.proofs.lemmas.List.Sorted.{IsPermutation-sym, IsPermutation-map}
+use Rattle.uu_names.proofs.Basics.{int_cmp-pos, filter_all}
 use Rattle.sqlite.specs.declared.types.Value.TheVariants.{Int, Blob}
 use Rattle.sqlite.specs.Order.{Row, column}
 use Rattle.sqlite.specs.Tree.{IsAscending}
@@ -34,9 +35,8 @@ use Rattle.uu_adopt.proofs.Texts.{sizes_text, piece_rowids_text}
 use Rattle.uu_adopt.specs.Reading.{FindsSizes, IsRead}
 use Rattle.uu_adopt.proofs.Meanings.{size_terms, rowids_of, sizes_means, piece_rowids_means}
 use Rattle.uu_rows.proofs.Meanings.{by_places}
-use Rattle.uu_rows.proofs.Comparing.{beside, int_cmp_nat}
+use Rattle.uu_rows.proofs.Comparing.{beside}
 use Rattle.uu_rows.proofs.Typed.{typed_only}
-use Rattle.uu_rows.proofs.InTables.{all_pass}
 use Rattle.uu_rows.proofs.Back.{same_all, size_back, size_returns, number_back, text_back}
 use Rattle.uu_adopt.proofs.Rowids.{ids_found, ids_held}
 use Rattle.uu_adopt.proofs.Sound.{HasBytes, piece_rows_are}
@@ -100,10 +100,10 @@ module _ (v : Version) (a b c : db.State) (rows ids : List Row) (stands : Stands
       let q : Query = ordered pieces.tree [] size_terms (by_places (1 ∷ 2 ∷ [])) in
       let out : Piece → Output = λ x. output q ([] ∷ beside (piece_cells x) ∷ []) in
       let less : (x y : Piece) → piece_cmp x y ≡ Less → output_cmp q (out x) (out y) ≡ Less = λ x y e.
-      then_key (value_cmp-Int (pos x.job) (pos y.job) ∙ int_cmp_nat x.job y.job) (last_key (value_cmp-Int (pos x.place) (pos y.place)) ∙ int_cmp_nat x.place y.place) ∙ e in
-      let strict = subst (IsAscending (λ x y. output_cmp q (out x) (out y) ≡ Less)) (sym (all_pass ps)) (ascending_weaker _ (λ x y. output_cmp q (out x) (out y) ≡ Less) less ps rise) in
+      then_key (value_cmp-Int (pos x.job) (pos y.job) ∙ int_cmp-pos x.job y.job) (last_key (value_cmp-Int (pos x.place) (pos y.place)) ∙ int_cmp-pos x.place y.place) ∙ e in
+      let strict = subst (IsAscending (λ x y. output_cmp q (out x) (out y) ≡ Less)) (sym (filter_all ps)) (ascending_weaker _ (λ x y. output_cmp q (out x) (out y) ≡ Less) less ps rise) in
       typed_only pieces.tree [] size_terms (by_places (1 ∷ 2 ∷ [])) a.now.trees [] rows refl answer (columns piece_places) beside (λ r. refl) (λ r. refl) piece_cells ps held (λ x. true) (λ x. refl) strict
-      ∙ map_same _ (λ p. size_cells (size_of p)) (λ p. shows_size (beside (piece_cells p))) (filter (λ x. true) ps) ∙ ap (map (λ p. size_cells (size_of p))) (all_pass ps) ∙ sym (map-map size_cells size_of ps)
+      ∙ map_same _ (λ p. size_cells (size_of p)) (λ p. shows_size (beside (piece_cells p))) (filter (λ x. true) ps) ∙ ap (map (λ p. size_cells (size_of p))) (filter_all ps) ∙ sym (map-map size_cells size_of ps)
 
   distinct : (ps : List Piece) → Keyed piece_key piece_cells piece_places ps table → (rs : List Row) × IsPermutation rs table × IsAscending (λ x y. x ≡ y → ⊥) rs
   distinct ps keyed =

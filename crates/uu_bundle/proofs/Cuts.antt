@@ -6,7 +6,7 @@ use Rattle.std.proofs.lemmas.List.{take-append-drop, take_all}
 use Rattle.std.proofs.lemmas.List.Folds.{list_all-append}
 use Rattle.std.proofs.lemmas.Str.{IsUtf8-from_ascii}
 use Rattle.std.proofs.lemmas.Str.Ascii.{IsAscii-cons, IsAscii-nil}
-use Rattle.std.proofs.lemmas.Bool.{and_from, and_parts}
+use Rattle.std.proofs.lemmas.Bool.{and_from, and_parts, not-true}
 use Rattle.std.proofs.Math.Numerals.{one-add}
 use Rattle.std.specs.Str.{IsAscii, IsUtf8}
 use Rattle.uu_names.specs.Name.{is_word_byte}
@@ -89,10 +89,6 @@ pub bare_parts : (text : List ℕ) → has_no_end text ≡ true → are_bare (sl
 bare_parts [] no_end = refl
 bare_parts (x ∷ xs) no_end = by (x == 32) refl (bare_parts xs (and_parts (not (x == 10)) (has_no_end xs) no_end).1)
   where
-    no_line_end : (b : Bool) → not b ≡ true → b ≡ false
-    no_line_end true e = absurd (true≢false (sym e))
-    no_line_end false e = refl
-
     onto : (parts : List (List ℕ)) → is_bare_byte x ≡ true → are_bare parts ≡ true → are_bare (onto_first x parts) ≡ true
     onto [] apart all = rw apart
     onto (part ∷ parts) apart all = rw apart all
@@ -100,7 +96,7 @@ bare_parts (x ∷ xs) no_end = by (x == 32) refl (bare_parts xs (and_parts (not 
     by : (b : Bool) → (x == 32) ≡ b → are_bare (slice_split is_space xs) ≡ true
         → are_bare (cond b ([] ∷ slice_split is_space xs) (onto_first x (slice_split is_space xs))) ≡ true
     by true is behind = behind
-    by false is behind = onto (slice_split is_space xs) (bare x is (no_line_end (x == 10) (and_parts (not (x == 10)) (has_no_end xs) no_end).0)) behind
+    by false is behind = onto (slice_split is_space xs) (bare x is (not-true (x == 10) (and_parts (not (x == 10)) (has_no_end xs) no_end).0)) behind
 
 -- ---- the first line
 

@@ -1,6 +1,6 @@
 -- The words of a bundle's lines have bytes of words alone.
-use Rattle.std.proofs.Common.{◌≡◌, ◌∙◌, ◌&&◌, ◌<◌, ◌≤◌, ◌^◌, ◌==◌, eqb, ap, sym, refl, Bool, true, false, true≢false, ℕ, zero, suc, Option, Some, None, unwrap_or, slice_get, get_or, List, [], ◌∷◌, length, arith, All}
-use Rattle.std.proofs.lemmas.Bool.Decides.{Decides-below_and, Decides-eqb, nat_tests}
+use Rattle.std.proofs.Common.{◌≡◌, ◌∙◌, ◌&&◌, ◌<◌, ◌≤◌, ◌^◌, ◌==◌, eqb, ap, sym, refl, Bool, true, false, true≢false, ℕ, Option, Some, None, unwrap_or, slice_get, get_or, List, [], ◌∷◌, length, arith, All}
+use Rattle.std.proofs.lemmas.Bool.Decides.{Decides-eqb, nat_tests}
 use Rattle.std.proofs.lemmas.Fmt.{decimal_is_IsNumeral}
 use Rattle.std.proofs.lemmas.List.Elements.{All-head, All-tail}
 use Rattle.std.proofs.lemmas.List.Quantifiers.{position-Some}
@@ -14,15 +14,12 @@ use Rattle.std.specs.Option.{option_to_list}
 use Rattle.std.specs.Str.Parse.{AllDigits}
 use Rattle.uu_names.specs.Grade.{grade_bytes, grade_count, rank_of}
 use Rattle.uu_names.specs.Name.{has_form, is_site_byte, is_site_name, is_word, is_word_byte, most_name, most_word}
-use Rattle.uu_names.proofs.Basics.{list_all_weaker}
+use Rattle.uu_names.proofs.Basics.{list_all_weaker, word_from_site, all_below-at}
 use Rattle.uu_bundle.specs.Internal.Forms.{are_bare, are_plain, is_bare_byte}
 use Rattle.uu_bundle.specs.Texts.{grade_text}
 
 plain_is_bare : (b : ℕ) → is_word_byte b ≡ true → is_bare_byte b ≡ true
 plain_is_bare b e = grind (arith, nat_tests)
-
-site_is_plain : (b : ℕ) → is_site_byte b ≡ true → is_word_byte b ≡ true
-site_is_plain b e = grind (arith, nat_tests)
 
 pub bare_from_plain : (words : List (List ℕ)) → are_plain words ≡ true → are_bare words ≡ true
 bare_from_plain [] e = refl
@@ -35,7 +32,7 @@ word_is_plain word e = (and_parts (nat_le 1 (length word)) _ (and_parts (has_for
 
 pub site_plain : (name : List ℕ) → IsTrue (is_site_name name) → list_all is_word_byte name ≡ true
 site_plain name e =
-    list_all_weaker is_site_byte is_word_byte name site_is_plain (and_parts (nat_le 1 (length name)) _ (and_parts (has_form is_site_byte name) (nat_le (length name) most_name) e).0).1
+    list_all_weaker is_site_byte is_word_byte name word_from_site (and_parts (nat_le 1 (length name)) _ (and_parts (has_form is_site_byte name) (nat_le (length name) most_name) e).0).1
 
 pub words_are_plain : (words : List (List ℕ)) → All (λ word. IsTrue (is_word word)) words → are_plain words ≡ true
 words_are_plain [] all = refl
@@ -56,13 +53,6 @@ pub decimal_is_plain : (n : ℕ) → n < 2 ^ 64 → list_all is_word_byte (decim
 decimal_is_plain n small = digits_are_plain (decimal n) (decimal_is_IsNumeral n small).0.1
 
 -- ---- grades, looked up at each rank
-
-abbrev all_below : (ℕ → Bool) → ℕ → Bool
-all_below p zero = true
-all_below p (suc n) = p n && all_below p n
-
-all_below-at : (p : ℕ → Bool) (n : ℕ) → all_below p n ≡ true → (k : ℕ) → k < n → p k ≡ true
-all_below-at p n h = (Decides-below_and p (λ k. p k ≡ true) (all_below p) (λ k. (λ e. e, λ e. e)) refl (λ _. refl) n).0 h
 
 -- one byte of a word, which reads back as the rank
 abbrev reads_back : ℕ → List ℕ → Bool

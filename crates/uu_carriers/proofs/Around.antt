@@ -2,6 +2,7 @@
 use Rattle.std.proofs.Common.{◌≡◌, ℕ, true, List, [], ◌∷◌, ◌++◌, map, take, All, Contains, Option, Ok, refl, sym, ap, subst, ◌∙◌, inl, inr}
 use Rattle.std.proofs.lemmas.List.{append-nil}
 use Rattle.std.proofs.lemmas.List.Elements.{All-contains, All-weaker, Contains-append_left, Contains-append_right, Contains-push_cases}
+use Rattle.uu_names.proofs.Basics.{first_of, none_in, all_from, from_map, in_map}
 use Rattle.uu_times.specs.declared.moment.Moment.{Moment}
 use Rattle.uu_core.specs.declared.command.Command.{Command}
 use Rattle.uu_core.specs.declared.command.Command.TheVariants.{Release}
@@ -11,7 +12,6 @@ use Rattle.uu_handover.specs.Bundles.{Bundle as Said}
 use Rattle.uu_custody.specs.Carried.{IsMarked}
 use Rattle.uu_custody.specs.Carried.{unpack as unpacks, settle as settles_with, other as others}
 use Rattle.uu_custody.specs.AmongSites.{AreNamed, IsOfLineAt, GoAround}
-use Rattle.uu_custody.proofs.Lists.{first_of, first_or_later, later_of, none_in, all_from, from_map}
 use Rattle.uu_bundle.specs.Bundles.{IsBundle, bundle_text, heading_of, records_of}
 use Rattle.uu_bundle.specs.Texts.{IsParcel, IsRecord}
 use Rattle.uu_bundle.specs.declared.bundle.Bundle.{Bundle}
@@ -27,15 +27,6 @@ use Rattle.uu_request.specs.declared.request.Settling.{Settling}
 use Rattle.uu_request.specs.declared.request.Unpacking.{Unpacking}
 use Rattle.uuspool.specs.Bundles.{numbers_told, release_of}
 use Rattle.uu_carriers.specs.Texts.{Places, chart_of, AreApart, Act, runs, stops, packs, deed_of, unpack, settle, other, IsOfLine, GoInTexts}
-
--- ---- elements
-
-pub mapped : {X Y : Type 0} (f : X → Y) (xs : List X) (x : X) → Contains xs x → Contains (map f xs) (f x)
-mapped f [] x h = absurd (none_in x h)
-mapped f (y ∷ xs) x h = elim (first_or_later y x xs h) [
-  | inl same ↦ subst (λ z. Contains (f y ∷ map f xs) (f z)) same (first_of (f y) (map f xs))
-  | inr later ↦ later_of (f y) (f x) (map f xs) (mapped f xs x later)
-]
 
 -- ---- what was read
 
@@ -125,7 +116,7 @@ module _ (places : Places) (unpacked : Unpacks) (settles : Settles) where
       each : (one : Packed) → Contains (map packed_job bundle.jobs) one → one.mark ≡ ((chart_of places).crossing line).mark one.parcel
       each one there =
           let job = from_map packed_job bundle.jobs one there in
-          let is : IsParcel (heading_of bundle) job.0 = All-contains (IsRecord (heading_of bundle)) (records_of bundle) (Job job.0) good.records (Contains-append_right (map Has bundle.has) (map No bundle.refused ++ map Job bundle.jobs) (Job job.0) (Contains-append_right (map No bundle.refused) (map Job bundle.jobs) (Job job.0) (mapped Job bundle.jobs job.0 job.1))) in
+          let is : IsParcel (heading_of bundle) job.0 = All-contains (IsRecord (heading_of bundle)) (records_of bundle) (Job job.0) good.records (Contains-append_right (map Has bundle.has) (map No bundle.refused ++ map Job bundle.jobs) (Job job.0) (Contains-append_right (map No bundle.refused) (map Job bundle.jobs) (Job job.0) (in_map Job bundle.jobs job.0 job.1))) in
           let own : (bundle_crossing bundle.from bundle.to bundle.spool).mark (packed_job job.0).parcel ≡ ((chart_of places).crossing line).mark (packed_job job.0).parcel =
           ap (λ f. (bundle_crossing f bundle.to bundle.spool).mark (packed_job job.0).parcel) (from ∙ ap places.name (sym here))
           ∙ ap (λ t. (bundle_crossing (places.name (places.begins line)) t bundle.spool).mark (packed_job job.0).parcel) to

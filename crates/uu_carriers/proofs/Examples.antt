@@ -4,9 +4,9 @@
 use Rattle.std.proofs.Common.{◌≡◌, ◌<◌, ◌++◌, ℕ, zero, suc, Bool, true, false, cond, ◌==◌, List, [], ◌∷◌, codes, Contains, Some, None, get_or, refl, sym, ap, subst, ◌∙◌, arith, append-nil}
 use Rattle.std.specs.Prelude.{IsTrue}
 use Rattle.uu_names.specs.Name.{is_site_name}
+use Rattle.uu_names.proofs.Basics.{none_in}
 use Rattle.uu_bundle.specs.Reading.{IsRead}
 use Rattle.uu_bundle.specs.declared.bundle.Bundle.{Bundle}
-use Rattle.uu_custody.proofs.Lists.{none_in}
 use Rattle.uu_line.specs.Lines.{MeansLine}
 use Rattle.uu_line.specs.declared.line.CommandLine.{CommandLine}
 use Rattle.uu_line.specs.declared.task.Task.{Task}

@@ -1,13 +1,13 @@
 -- All lines of a history.
-use Rattle.std.proofs.Common.{◌≡◌, ◌<◌, ◌++◌, ℕ, Bool, true, false, cond, ◌==◌, List, [], ◌∷◌, map, take, drop, All, Contains, Option, refl, sym, ap, subst, ◌∙◌, arith, inl, inr, append-nil}
-use Rattle.std.proofs.lemmas.Bool.Decides.{nat_tests}
+use Rattle.std.proofs.Common.{◌≡◌, ◌<◌, ◌++◌, ℕ, Bool, true, false, cond, ◌==◌, List, [], ◌∷◌, map, take, drop, All, Contains, Option, refl, sym, ap, subst, ◌∙◌, inl, inr, append-nil}
 use Rattle.std.proofs.lemmas.List.{take-append-drop}
 use Rattle.std.proofs.lemmas.List.Elements.{All-nil, Contains-append_left, Contains-push_cases}
+use Rattle.std.proofs.lemmas.Bool.{eqb-true, eq-eqb}
+use Rattle.uu_names.proofs.Basics.{all_from}
 use Rattle.uu_core.specs.declared.command.Command.{Command}
 use Rattle.uu_core.specs.declared.command.Reply.{Reply}
 use Rattle.uu_core.specs.State.{State}
 use Rattle.uu_custody.specs.AmongSites.{GoOn}
-use Rattle.uu_custody.proofs.Lists.{all_from}
 use Rattle.uu_bundle.specs.declared.bundle.Bundle.{Bundle}
 use Rattle.uu_settings.specs.declared.settings.Settings.{Settings}
 use Rattle.uuspool.specs.ServedLines.{AreTold, ServedRequest, ServedLine, commands_asked}
@@ -15,11 +15,8 @@ use Rattle.uu_carriers.specs.Texts.{Places, Act, stops, deed_of, IsOfLine, GoInT
 use Rattle.uu_carriers.specs.Lines.{Step, serves, ends, with_first, runs_at, AreWithin, AskForBundle, GoInLines, AreSites}
 use Rattle.uu_carriers.proofs.Words.{StandsFor, Covers}
 use Rattle.uu_carriers.proofs.Printed.{MayPack, MayAnswer}
-use Rattle.uu_carriers.proofs.Runs.{RunData, answer_acts, pack_acts, same_site, exchanges_of, exchanges_packs, exchanges_here, exchanges_there, sayings_of, sayings_there, AreSaid, AreSaidFrom, begin_said, go_said, said_answers, said_packs, texts_line, on_line}
+use Rattle.uu_carriers.proofs.Runs.{RunData, answer_acts, pack_acts, exchanges_of, exchanges_packs, exchanges_here, exchanges_there, sayings_of, sayings_there, AreSaid, AreSaidFrom, begin_said, go_said, said_answers, said_packs, texts_line, on_line}
 use Rattle.uu_carriers.proofs.Histories.{stands_later, exchange_of_run, Goes, AllGo, all_go_later, Next, next}
-
-eq_of : (a b : ℕ) → a == b ≡ true → a ≡ b
-eq_of a b e = grind (arith, nat_tests)
 
 none_go : (places : Places) (packed : List Bundle) (site : ℕ) (runs : List RunData) → AllGo places packed site [] runs → runs ≡ []
 none_go places packed site [] all = refl
@@ -79,7 +76,7 @@ module _ (places : Places) (count : ℕ) (sites : AreSites places count) (may_pa
   put runs there these other = cond (other == there) these (runs other)
 
   put_here : (runs : ℕ → List RunData) (there : ℕ) (these : List RunData) → put runs there these there ≡ these
-  put_here runs there these = ap (λ t. cond t these (runs there)) (same_site there)
+  put_here runs there these = ap (λ t. cond t these (runs there)) (eq-eqb there there refl)
 
   put_there : (runs : ℕ → List RunData) (there : ℕ) (these : List RunData) (other : ℕ) → other == there ≡ false → put runs there these other ≡ runs other
   put_there runs there these other e = ap (λ t. cond t these (runs other)) e
@@ -96,7 +93,7 @@ module _ (places : Places) (count : ℕ) (sites : AreSites places count) (may_pa
       where
         by-test : (t : Bool) → site == there ≡ t → AllGo places (packed ++ n.new) site (runs_at site steps) (cond t (n.then ∷ f.more) (runs site))
         by-test true e =
-            subst (λ k. AllGo places (packed ++ n.new) k (runs_at k steps) (n.then ∷ f.more)) (sym (eq_of site there e))
+            subst (λ k. AllGo places (packed ++ n.new) k (runs_at k steps) (n.then ∷ f.more)) (sym (eqb-true site there e))
             (subst (λ r. AllGo places (packed ++ n.new) there r (n.then ∷ f.more)) (sym b.are) (n.goes, all_go_later places packed n.new there b.later f.more f.rest))
         by-test false e = all_go_later places packed n.new site (runs_at site steps) (runs site)
             (subst (λ t. AllGo places packed site (cond t (with_first line (runs_at site steps)) (runs_at site steps)) (runs site)) e (all site m))
@@ -142,11 +139,11 @@ module _ (places : Places) (count : ℕ) (sites : AreSites places count) (may_pa
       }
         where
           by_told : (site : ℕ) → site < count → (t : Bool) → site == there ≡ t → exchanges_of site line_acts ≡ map exchange_of_run (runs site)
-          by_told site m true e = subst (λ k. exchanges_of k line_acts ≡ map exchange_of_run (runs k)) (sym (eq_of site there e)) told_here
+          by_told site m true e = subst (λ k. exchanges_of k line_acts ≡ map exchange_of_run (runs k)) (sym (eqb-true site there e)) told_here
           by_told site m false e = told_there site m e
 
           by-said : (site : ℕ) → site < count → (t : Bool) → site == there ≡ t → AreSaid (places.name site) (runs site) (sayings_of site line_acts)
-          by-said site m true e = subst (λ k. AreSaid (places.name k) (runs k) (sayings_of k line_acts)) (sym (eq_of site there e)) (said_here started)
+          by-said site m true e = subst (λ k. AreSaid (places.name k) (runs k) (sayings_of k line_acts)) (sym (eqb-true site there e)) (said_here started)
           by-said site m false e = said_there site m e
 
   -- ---- the end of a run
@@ -159,7 +156,7 @@ module _ (places : Places) (count : ℕ) (sites : AreSites places count) (may_pa
     later_go all site m = by-test (site == there) refl
       where
         by-test : (t : Bool) → site == there ≡ t → AllGo places packed site (runs_at site steps) (cond t f.more (runs site))
-        by-test true e = subst (λ k. AllGo places packed k (runs_at k steps) f.more) (sym (eq_of site there e)) f.rest
+        by-test true e = subst (λ k. AllGo places packed k (runs_at k steps) f.more) (sym (eqb-true site there e)) f.rest
         by-test false e = subst (λ t. AllGo places packed site (cond t ([] ∷ runs_at site steps) (runs_at site steps)) (runs site)) e (all site m)
 
     module _ (rest : History packed later_runs) where
@@ -177,7 +174,7 @@ module _ (places : Places) (count : ℕ) (sites : AreSites places count) (may_pa
 
       ended_here : exchanges_of there end_acts ≡ map exchange_of_run (runs there)
       ended_here =
-          ap (λ t. cond t (record { commands = f.run.pending; replies = []; in_hand = f.run.in_hand; ending = f.run.ending } ∷ exchanges_of there rest.acts) (exchanges_of there rest.acts)) (same_site there)
+          ap (λ t. cond t (record { commands = f.run.pending; replies = []; in_hand = f.run.in_hand; ending = f.run.ending } ∷ exchanges_of there rest.acts) (exchanges_of there rest.acts)) (eq-eqb there there refl)
           ∙ ap (λ l. record { commands = f.run.pending; replies = []; in_hand = f.run.in_hand; ending = f.run.ending } ∷ l) (rest.told there l ∙ ap (map exchange_of_run) (put_here runs there f.more))
           ∙ ap (λ e. e ∷ map exchange_of_run f.more) (sym end_is)
           ∙ ap (map exchange_of_run) (sym f.runs_are)
@@ -190,7 +187,7 @@ module _ (places : Places) (count : ℕ) (sites : AreSites places count) (may_pa
       silent_here : AreSaid (places.name there) (runs there) (sayings_of there end_acts)
       silent_here =
           subst (λ r. AreSaid (places.name there) r (sayings_of there end_acts)) (sym f.runs_are)
-          (subst (λ t. AreSaid (places.name there) (f.run ∷ f.more) (cond t ([] ∷ sayings_of there rest.acts) (sayings_of there rest.acts))) (sym (same_site there))
+          (subst (λ t. AreSaid (places.name there) (f.run ∷ f.more) (cond t ([] ∷ sayings_of there rest.acts) (sayings_of there rest.acts))) (sym (eq-eqb there there refl))
           ((λ not. refl, All-nil _), subst (λ r. AreSaid (places.name there) r (sayings_of there rest.acts)) (put_here runs there f.more) (rest.said there l)))
 
       silent_there : (site : ℕ) → site < count → site == there ≡ false → AreSaid (places.name site) (runs site) (sayings_of site end_acts)
@@ -208,11 +205,11 @@ module _ (places : Places) (count : ℕ) (sites : AreSites places count) (may_pa
       }
         where
           by_told : (site : ℕ) → site < count → (t : Bool) → site == there ≡ t → exchanges_of site end_acts ≡ map exchange_of_run (runs site)
-          by_told site m true e = subst (λ k. exchanges_of k end_acts ≡ map exchange_of_run (runs k)) (sym (eq_of site there e)) ended_here
+          by_told site m true e = subst (λ k. exchanges_of k end_acts ≡ map exchange_of_run (runs k)) (sym (eqb-true site there e)) ended_here
           by_told site m false e = ended_there site m e
 
           by-said : (site : ℕ) → site < count → (t : Bool) → site == there ≡ t → AreSaid (places.name site) (runs site) (sayings_of site end_acts)
-          by-said site m true e = subst (λ k. AreSaid (places.name k) (runs k) (sayings_of k end_acts)) (sym (eq_of site there e)) silent_here
+          by-said site m true e = subst (λ k. AreSaid (places.name k) (runs k) (sayings_of k end_acts)) (sym (eqb-true site there e)) silent_here
           by-said site m false e = silent_there site m e
 
   -- ---- all of it
@@ -240,7 +237,7 @@ module _ (places : Places) (count : ℕ) (sites : AreSites places count) (may_pa
   go_all [] lines packed runs covers typed within all = none_at_all packed runs all
   go_all (serves there line ∷ steps) lines packed runs covers typed within all =
       let b = behind_first line (runs_at there steps) within.1 in
-      let here : AllGo places packed there ((line ∷ b.lines) ∷ b.later) (runs there) = subst (λ r. AllGo places packed there r (runs there)) (ap (λ t. cond t (with_first line (runs_at there steps)) (runs_at there steps)) (same_site there) ∙ b.first) (all there within.0) in
+      let here : AllGo places packed there ((line ∷ b.lines) ∷ b.later) (runs there) = subst (λ r. AllGo places packed there r (runs there)) (ap (λ t. cond t (with_first line (runs_at there steps)) (runs_at there steps)) (eq-eqb there there refl) ∙ b.first) (all there within.0) in
       let f = first_go places packed there (line ∷ b.lines) b.later (runs there) here in
       let n = next places may_pack may_answer there (sites.names there within.0) (sites.words there within.0) packed lines covers line b.lines f.run typed.0 f.goes in
       with_line there line steps packed lines covers runs within.0 b f n
@@ -248,6 +245,6 @@ module _ (places : Places) (count : ℕ) (sites : AreSites places count) (may_pa
       (then_go there line steps packed lines covers runs within.0 b f n all))
       (started_run f.run.is_started b.lines line f.goes.idle)
   go_all (ends there ∷ steps) lines packed runs covers typed within all =
-      let here : AllGo places packed there ([] ∷ runs_at there steps) (runs there) = subst (λ r. AllGo places packed there r (runs there)) (ap (λ t. cond t ([] ∷ runs_at there steps) (runs_at there steps)) (same_site there)) (all there within.0) in
+      let here : AllGo places packed there ([] ∷ runs_at there steps) (runs there) = subst (λ r. AllGo places packed there r (runs there)) (ap (λ t. cond t ([] ∷ runs_at there steps) (runs_at there steps)) (eq-eqb there there refl)) (all there within.0) in
       let f = first_go places packed there [] (runs_at there steps) (runs there) here in
       with_end there steps packed runs within.0 f (go_all steps lines packed (later_runs there steps packed runs within.0 f) covers typed within.1 (later_go there steps packed runs within.0 f all))

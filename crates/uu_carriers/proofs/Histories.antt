@@ -4,13 +4,13 @@ use Rattle.std.specs.Prelude.{⊤, IsTrue}
 use Rattle.std.proofs.lemmas.List.Elements.{Contains-append_left, Contains-append_right, Contains-append_cases}
 use Rattle.uu_names.specs.Grade.{grade_count}
 use Rattle.uu_names.specs.Name.{is_site_name, is_word}
+use Rattle.uu_names.proofs.Basics.{first_of, none_in, in_one}
 use Rattle.uu_core.specs.declared.command.Command.{Command}
 use Rattle.uu_core.specs.declared.command.Reply.{Reply}
 use Rattle.uu_core.specs.State.{State, IsWellFormed}
 use Rattle.uu_core.specs.Run.{state_after}
 use Rattle.uu_store.specs.Exchanges.{Ending, Exchange}
 use Rattle.uu_custody.specs.Carried.{IsSaidBy}
-use Rattle.uu_custody.proofs.Lists.{first_of, first_or_later, none_in}
 use Rattle.uu_bundle.specs.Bundles.{IsBundle}
 use Rattle.uu_bundle.specs.declared.bundle.Bundle.{Bundle}
 use Rattle.uu_line.specs.declared.task.Task.{Task}
@@ -264,13 +264,10 @@ module _ (places : Places) (may_pack : MayPack) (may_answer : MayAnswer) (site :
         with_none : (AskForBundle line → HasNoBundle line.output) → Next line behind (run_of (Some given ∷ asked))
         with_none nothing = with_new [] (λ bundle there. absurd (none_in bundle there)) (λ bundle there. absurd (none_in bundle there)) (λ asks. inr (nothing asks))
 
-        only : (one bundle : Bundle) → Contains (one ∷ []) bundle → one ≡ bundle
-        only one bundle there = elim (first_or_later one bundle [] there) [ inl same ↦ same | inr later ↦ absurd (none_in bundle later) ]
-
         with_one : (it.from ≡ state) → IsSpoken (places.name site) (places.word site) it.from line.output → given.commands ≡ [] → Next line behind (run_of (Some given ∷ asked))
         with_one same spoken none = with_new (spoken.bundle ∷ [])
-            (λ bundle there. subst (λ (b : Bundle). IsBundle b × (b.from ≡ places.name site) × (b.spool ≡ places.word site)) (only spoken.bundle bundle there) (spoken.good, spoken.from, spoken.spool))
-            (λ bundle there. subst (λ (b : Bundle). IsSaidBy (places.name site) then_of.state (said_of b)) (only spoken.bundle bundle there)
+            (λ bundle there. subst (λ (b : Bundle). IsBundle b × (b.from ≡ places.name site) × (b.spool ≡ places.word site)) (in_one spoken.bundle bundle there) (spoken.good, spoken.from, spoken.spool))
+            (λ bundle there. subst (λ (b : Bundle). IsSaidBy (places.name site) then_of.state (said_of b)) (in_one spoken.bundle bundle there)
             (subst (λ (s : State). IsSaidBy (places.name site) s (said_of spoken.bundle)) (same ∙ ap (λ l. state_after state (heard l replies)) (sym none)) spoken.said))
             (λ asks. inl (spoken.bundle, Contains-append_right packed (spoken.bundle ∷ []) spoken.bundle (first_of spoken.bundle []), spoken.cut, spoken.is))
 

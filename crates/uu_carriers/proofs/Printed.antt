@@ -6,6 +6,7 @@ use Rattle.std.proofs.lemmas.List.Elements.{All-contains}
 use Rattle.std.proofs.lemmas.List.Folds.{list_any_none}
 use Rattle.uu_names.specs.Grade.{grade_count}
 use Rattle.uu_names.specs.Name.{is_site_name, is_word}
+use Rattle.uu_names.proofs.Basics.{all_from, all_or_one, first_of, first_or_later, from_map, later_of, none_in}
 use Rattle.uu_times.specs.declared.moment.Moment.{Moment}
 use Rattle.uu_core.specs.declared.command.Command.{Command}
 use Rattle.uu_core.specs.declared.command.Command.TheVariants.{QueueOnce}
@@ -16,7 +17,6 @@ use Rattle.uu_core.specs.declared.system.SystemRow.{SystemRow}
 use Rattle.uu_core.specs.State.{State, IsWellFormed, IsDefinition, has_system, is_system}
 use Rattle.uu_handover.specs.Bundles.{IsSaid, Packed, key_for}
 use Rattle.uu_custody.specs.Carried.{IsSaidBy}
-use Rattle.uu_custody.proofs.Lists.{all_from, all_or_one, first_of, first_or_later, from_map, later_of, none_in}
 use Rattle.uu_bundle.specs.Bundles.{IsBundle, bundle_text, heading_of}
 use Rattle.uu_bundle.specs.Reading.{IsRead, jobs_in}
 use Rattle.uu_bundle.specs.Texts.{IsParcel, IsRecord, marked_text}

@@ -1,9 +1,10 @@
 -- What a line gives a spool, as acts of a history in texts.
 use Rattle.std.proofs.Common.{◌≡◌, ◌⊎◌, ◌≤◌, ◌++◌, ℕ, Bool, true, false, cond, ◌==◌, List, [], ◌∷◌, length, drop, map, All, Contains, refl, sym, ap, subst, ◌∙◌, arith, inl, inr, append-nil, append_assoc, true≢false, Option}
 use Rattle.std.specs.Prelude.{⊤}
-use Rattle.std.proofs.lemmas.Bool.Decides.{nat_tests}
 use Rattle.std.proofs.lemmas.List.{drop_all}
 use Rattle.std.proofs.lemmas.List.Elements.{All-nil, All-cons, All-contains}
+use Rattle.std.proofs.lemmas.Bool.{eq-eqb}
+use Rattle.uu_names.proofs.Basics.{first_of, later_of, from_map, all_from}
 use Rattle.uu_core.specs.declared.command.Command.{Command}
 use Rattle.uu_core.specs.declared.command.Reply.{Reply}
 use Rattle.uu_core.specs.State.{State}
@@ -14,7 +15,6 @@ use Rattle.uu_custody.specs.Events.{after_answer}
 use Rattle.uu_custody.specs.Carried.{Saying, sayings_at, IsSaidBy}
 use Rattle.uu_custody.specs.Carried.{with_first as with_first_said, after_answer as after_command}
 use Rattle.uu_custody.specs.AmongSites.{exchanges_in, with_first, GoOn}
-use Rattle.uu_custody.proofs.Lists.{first_of, later_of, from_map, all_from}
 use Rattle.uu_bundle.specs.Bundles.{IsBundle}
 use Rattle.uu_bundle.specs.declared.bundle.Bundle.{Bundle}
 use Rattle.uu_settings.specs.declared.settings.Settings.{Settings}
@@ -120,9 +120,6 @@ exchange_then pending commands behind replies in_hand ending (inr none) =
 
 -- ---- what each site has of them
 
-pub same_site : (site : ℕ) → site == site ≡ true
-same_site site = grind (arith, nat_tests)
-
 abbrev pub exchanges_of : ℕ → List Act → List Exchange
 exchanges_of site acts = exchanges_in site (map deed_of acts)
 
@@ -135,7 +132,7 @@ pub exchanges_here : (site : ℕ) (commands : List Command) (replies : List Repl
 exchanges_here site [] replies acts first more same = same
 exchanges_here site (command ∷ commands) [] acts first more same = same
 exchanges_here site (command ∷ commands) (reply ∷ replies) acts first more same =
-    ap (λ t. cond t (with_first (after_answer command reply) (exchanges_of site (answer_acts site commands replies acts))) (exchanges_of site (answer_acts site commands replies acts))) (same_site site)
+    ap (λ t. cond t (with_first (after_answer command reply) (exchanges_of site (answer_acts site commands replies acts))) (exchanges_of site (answer_acts site commands replies acts))) (eq-eqb site site refl)
     ∙ ap (with_first (after_answer command reply)) (exchanges_here site commands replies acts first more same)
 
 pub exchanges_there : (other site : ℕ) (commands : List Command) (replies : List Reply) (acts : List Act) → other == site ≡ false → exchanges_of other (answer_acts site commands replies acts) ≡ exchanges_of other acts
@@ -202,7 +199,7 @@ said_answers own site [] replies acts s more are = are
 said_answers own site (command ∷ commands) [] acts s more are = are
 said_answers own site (command ∷ commands) (reply ∷ replies) acts s more are =
     let rest = said_answers own site commands replies acts (after s command).0 more are in
-    subst (λ t. AreSaidFrom own s more (cond t (with_first_said (map (after_command command)) (sayings_of site (answer_acts site commands replies acts))) (sayings_of site (answer_acts site commands replies acts)))) (sym (same_site site))
+    subst (λ t. AreSaidFrom own s more (cond t (with_first_said (map (after_command command)) (sayings_of site (answer_acts site commands replies acts))) (sayings_of site (answer_acts site commands replies acts)))) (sym (eq-eqb site site refl))
     (behind (sayings_of site (answer_acts site commands replies acts)) rest)
   where
     behind : (said : List (List Saying)) → AreSaidFrom own (after s command).0 more said → AreSaidFrom own s more (with_first_said (map (after_command command)) said)
@@ -214,7 +211,7 @@ pub said_packs : (own : List ℕ) (site : ℕ) (bundles : List Bundle) (acts : L
 said_packs own site [] acts s more each are = are
 said_packs own site (bundle ∷ bundles) acts s more each are =
     let rest = said_packs own site bundles acts s more (λ one there. each one (later_of bundle one bundles there)) are in
-    subst (λ t. AreSaidFrom own s more (cond t (with_first_said (λ sayings. record { answered = []; bundle = said_of bundle } ∷ sayings) (sayings_of site (pack_acts site bundles acts))) (sayings_of site (pack_acts site bundles acts)))) (sym (same_site site))
+    subst (λ t. AreSaidFrom own s more (cond t (with_first_said (λ sayings. record { answered = []; bundle = said_of bundle } ∷ sayings) (sayings_of site (pack_acts site bundles acts))) (sayings_of site (pack_acts site bundles acts)))) (sym (eq-eqb site site refl))
     (behind (sayings_of site (pack_acts site bundles acts)) rest)
   where
     behind : (said : List (List Saying)) → AreSaidFrom own s more said → AreSaidFrom own s more (with_first_said (λ sayings. record { answered = []; bundle = said_of bundle } ∷ sayings) said)

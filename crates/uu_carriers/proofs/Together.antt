@@ -1,13 +1,13 @@
 -- Messages come once in the files of sites whose lines go so.
 use Rattle.std.proofs.Common.{◌<◌, ℕ, List, [], map, sym, ◌∙◌}
 use Rattle.std.proofs.Math.Logic.{∥∥₁_elim, ∥∥₁_map}
+use Rattle.uu_names.proofs.Basics.{none_in}
 use Rattle.sqlite_wal.specs.Recovery.{Image}
 use Rattle.uu_core.specs.State.{State}
 use Rattle.uu_store.specs.Files.{FileStretch, last_left}
 use Rattle.uu_store.proofs.FileRuns.{all_keep}
 use Rattle.uu_store.proofs.Running.{RepliesFollow}
 use Rattle.uu_custody.specs.AmongSites.{AreAmong, GoOn, IsInFiles, AllCameInBundles}
-use Rattle.uu_custody.proofs.Lists.{none_in}
 use Rattle.uu_custody.proofs.Sites.{Chosen, chosen}
 use Rattle.uu_carriers.specs.Texts.{Places, chart_of, AreApart, Act, deed_of, GoInTexts}
 use Rattle.uu_carriers.specs.Lines.{Step, runs_at, AreWithin, GoInLines, AreSites, HappenedOver, ComeOnceInFiles}

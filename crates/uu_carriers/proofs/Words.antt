@@ -15,7 +15,6 @@ use Rattle.uu_bundle.specs.Reading.{IsRead}
 use Rattle.uu_bundle.specs.declared.bundle.Bundle.{Bundle}
 use Rattle.uu_custody.specs.Events.{sender, receiver}
 use Rattle.uu_custody.specs.Carried.{IsBeside}
-use Rattle.uu_custody.proofs.Lists.{first_of, first_or_later, none_in, from_map}
 use Rattle.uu_line.specs.declared.origin.Origin.{Origin}
 use Rattle.uu_line.specs.declared.task.Task.{Task}
 use Rattle.uu_line.specs.declared.task.Task.TheVariants as task
@@ -29,6 +28,7 @@ use Rattle.uu_bundle.specs.declared.bundle.Parcel.{Parcel}
 use Rattle.uu_line.specs.Lines.{same_text}
 use Rattle.uuspool.specs.Bundles.{numbers_told}
 use Rattle.std.specs.Option.{option_to_list}
+use Rattle.uu_names.proofs.Basics.{first_of, first_or_later, none_in, from_map}
 use Rattle.uu_request.specs.declared.request.Settling.{Settling}
 use Rattle.uu_request.specs.declared.request.Unpacking.{Unpacking}
 use Rattle.uu_request.specs.declared.fault.RequestFault.{RequestFault}

@@ -3,8 +3,9 @@ use Rattle.std.proofs.Common.{◌≡◌, ℕ, suc, ◌+◌, ◌<◌, ◌≤◌, 
 use Rattle.std.specs.Prelude.{◌&&◌, ◌||◌}
 use Rattle.std.specs.List.{AllByRecursion}
 use Rattle.std.proofs.lemmas.Bool.{and_parts, leb-true, le-leb, eqb-true, eq-eqb, and_right}
+use Rattle.std.proofs.lemmas.List.{length-map}
 use Rattle.uu_names.specs.Name.{is_site_name}
-use Rattle.uu_names.proofs.Basics.{earlier_other, text_from, AllPairsByRecursion}
+use Rattle.uu_names.proofs.Basics.{earlier_other, text_from, AllPairsByRecursion, lt-eqb}
 use Rattle.uu_times.specs.declared.system.Line.{Line}
 use Rattle.uu_core.specs.declared.system.Outcome.{Outcome}
 use Rattle.uu_core.specs.declared.system.Outcome.TheVariants.{Never, Failed, Done}
@@ -15,7 +16,6 @@ use Rattle.uu_tables.specs.declared.rows.SystemColumns.{SystemColumns}
 use Rattle.uu_tables.specs.Tables.{PlacedLine, line_columns, placed, placed_from, system_columns, outcome_number, reason_of}
 use Rattle.uu_check.specs.Tests.{is_outcome, are_placed, owns_line, fits_system}
 use Rattle.uu_check.proofs.Walks.{Item}
-use Rattle.uu_check.proofs.Meanings.{eq_not_up}
 
 -- ---- calls
 
@@ -68,10 +68,6 @@ back s place (p ∷ ps) own h =
     let here : place ≡ p.place = sym (eqb-true _ _ parts.0) in
     λ i. record { system = system i; place = here i; line = p.line } ∷ back s (place + 1) ps own.1 parts.1 i
 
-length_map : {X Y : Type 0} (f : X → Y) (xs : List X) → length (map f xs) ≡ length xs
-length_map f [] = refl
-length_map f (x ∷ xs) = ap suc (length_map f xs)
-
 pub system_of_rows : (s : SystemColumns) (ps : List PlacedLine) → AllByRecursion (λ p. owns s p ≡ true) ps → fits s ps ≡ true → Item owns fits system_columns placed IsGoodSystem s ps
 system_of_rows s ps own test =
     let d = and_parts _ _ test in let c = and_parts _ _ d.0 in let b = and_parts _ _ c.0 in let a = and_parts _ _ b.0 in
@@ -83,7 +79,7 @@ system_of_rows s ps own test =
       good = record {
         name = a.0;
         most = leb-true _ _ a.1;
-        few = omega (arith, few, length_map line_columns ps, length_map line_in ps);
+        few = omega (arith, few, length-map ps line_columns, length-map ps line_in);
         call = record { last = leb-true _ _ x.0; failures = leb-true _ _ x.1; wait = leb-true _ _ y.1; outcome = o.good };
       };
       row = λ i. record s { call = record s.call { outcome = o.number i; why = o.reason i } };
@@ -117,7 +113,7 @@ Differ p q = (same_text p.system q.system && (p.place == q.place)) ≡ false
 
 later_differ : (name : List ℕ) (line : Line) (here place : ℕ) (lines : List Line) → here < place → AllByRecursion (Differ (record { system = name; place = here; line = line })) (placed_from name place lines)
 later_differ name line here place [] below = tt
-later_differ name line here place (next ∷ lines) below = (and_right (same_text name name) (here == place) (eq_not_up here place below), later_differ name line here (place + 1) lines (omega (arith, below)))
+later_differ name line here place (next ∷ lines) below = (and_right (same_text name name) (here == place) (lt-eqb here place below), later_differ name line here (place + 1) lines (omega (arith, below)))
 
 own_differ : (name : List ℕ) (place : ℕ) (lines : List Line) → AllPairsByRecursion Differ (placed_from name place lines)
 own_differ name place [] = tt

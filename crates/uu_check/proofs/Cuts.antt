@@ -1,10 +1,10 @@
 -- The bytes of a job in pieces.
-use Rattle.std.proofs.Common.{◌≡◌, ℕ, zero, suc, ◌+◌, ◌-◌, ◌*◌, ◌≤◌, min, true, ◌==◌, List, [], ◌∷◌, ◌++◌, map, length, take, drop, refl, sym, ap, subst, ◌∙◌, arith, length-append}
+use Rattle.std.proofs.Common.{◌≡◌, ℕ, zero, suc, ◌+◌, ◌-◌, ◌*◌, ◌≤◌, min, true, ◌==◌, List, [], ◌∷◌, ◌++◌, map, length, take, drop, refl, sym, ap, subst, ◌∙◌, arith, length-append, append-nil}
 use Rattle.std.specs.Prelude.{◌&&◌, nat_le}
 use Rattle.std.specs.List.{AllByRecursion, flat_map, range_with_len}
 use Rattle.std.proofs.lemmas.Bool.{and_parts, eq-eqb, le-leb}
 use Rattle.std.proofs.lemmas.Bool.Decides.{nat_tests}
-use Rattle.std.proofs.lemmas.List.{drop-drop, length-take, length-drop, take_all}
+use Rattle.std.proofs.lemmas.List.{drop-drop, length-take, length-drop, take_all, drop_all}
 use Rattle.std.proofs.Math.Seq.{take-append_seam, drop-append_seam}
 use Rattle.uu_tables.specs.Tables.{Piece, piece, piece_count, size_of}
 use Rattle.uu_check.specs.Tests.{are_cut}
@@ -27,21 +27,11 @@ count_none : (size : ℕ) → piece_count size ≡ 0 → size ≡ 0
 count_none size h = omega (arith, h)
 
 take_piece : (xs ys : List ℕ) → length xs ≡ min (length xs + length ys) 16384 → take 16384 (xs ++ ys) ≡ xs
-take_piece xs [] h = take_all 16384 (xs ++ []) (simp length-append (omega (arith, h))) ∙ append_nil xs
-  where
-    append_nil : (xs : List ℕ) → xs ++ [] ≡ xs
-    append_nil [] = refl
-    append_nil (x ∷ xs) = ap (λ l. x ∷ l) (append_nil xs)
+take_piece xs [] h = take_all 16384 (xs ++ []) (simp length-append (omega (arith, h))) ∙ append-nil xs
 take_piece xs (y ∷ ys) h = let all : length xs ≡ 16384 = omega (arith, h) in ap (λ n. take n (xs ++ y ∷ ys)) (sym all) ∙ take-append_seam xs (y ∷ ys)
 
 drop_piece : (xs ys : List ℕ) → length xs ≡ min (length xs + length ys) 16384 → drop 16384 (xs ++ ys) ≡ ys
-drop_piece xs [] h = drop_none 16384 (xs ++ []) (simp length-append (omega (arith, h)))
-  where
-    drop_none : (n : ℕ) (xs : List ℕ) → length xs ≤ n → drop n xs ≡ []
-    drop_none zero [] h = refl
-    drop_none zero (x ∷ xs) h = absurd (omega (arith, h))
-    drop_none (suc n) [] h = refl
-    drop_none (suc n) (x ∷ xs) h = drop_none n xs (omega (arith, h))
+drop_piece xs [] h = drop_all 16384 (xs ++ []) (simp length-append (omega (arith, h)))
 drop_piece xs (y ∷ ys) h = let all : length xs ≡ 16384 = omega (arith, h) in ap (λ n. drop n (xs ++ y ∷ ys)) (sym all) ∙ drop-append_seam xs (y ∷ ys)
 
 abbrev pub bytes_of : List Piece → List ℕ

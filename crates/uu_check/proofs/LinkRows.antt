@@ -5,7 +5,7 @@ use Rattle.std.specs.List.{AllByRecursion, flat_map, list_all, list_any}
 use Rattle.std.proofs.lemmas.Bool.{and_parts, cases_Bool, leb-true, le-leb, ltb-true, lt-ltb, eqb-true, or_right}
 use Rattle.std.proofs.lemmas.Cmp.{nat_list_cmp_total}
 use Rattle.std.proofs.lemmas.List.Elements.{recursion_from_All, All-from_recursion}
-use Rattle.uu_names.proofs.Basics.{later_other, earlier_other, less_is, text_from, text_to, pairs_by_recursion, all_weaker, all_mapped, all_append, AllPairsByRecursion}
+use Rattle.uu_names.proofs.Basics.{later_other, earlier_other, less_is, text_from, text_to, pairs_by_recursion, all_weaker, all_mapped, all_append, AllPairsByRecursion, all_unit, list_all_both}
 use Rattle.uu_core.specs.declared.custody.Taken.{Taken}
 use Rattle.uu_core.specs.declared.system.SystemRow.{SystemRow}
 use Rattle.uu_core.specs.Marks.{marks_end}
@@ -154,10 +154,6 @@ each_paired P Q R step [] ts h k = tt
 each_paired P Q R step (b ∷ bs) [] h k = tt
 each_paired P Q R step (b ∷ bs) (t ∷ ts) h k = (step b t h.0 k.0, each_paired P Q R step bs ts h.1 k.1)
 
-all_true : {X : Type 0} (xs : List X) → AllByRecursion (λ _. Unit {0}) xs
-all_true [] = tt
-all_true (x ∷ xs) = (tt, all_true xs)
-
 abbrev pub LinkBefore : Link → Link → Type 0
 LinkBefore a b = ComesBefore a.name b.name
 
@@ -167,10 +163,10 @@ BelowBefore a b = ComesBefore a.columns.name b.columns.name
 paired_rise : (bs : List Below) (ts : List Took) → AllPairsByRecursion BelowBefore bs → AllPairsByRecursion LinkBefore (paired bs ts)
 paired_rise [] ts h = tt
 paired_rise (b ∷ bs) [] h = tt
-paired_rise (b ∷ bs) (t ∷ ts) h = (each_paired (BelowBefore b) (λ _. Unit {0}) (LinkBefore (joined b t)) (λ c u before k. before) bs ts h.0 (all_true ts), paired_rise bs ts h.1)
+paired_rise (b ∷ bs) (t ∷ ts) h = (each_paired (BelowBefore b) (λ _. Unit {0}) (LinkBefore (joined b t)) (λ c u before k. before) bs ts h.0 (all_unit ts), paired_rise bs ts h.1)
 
 said_rise : (ls : List Link) → AllPairsByRecursion LinkBefore ls → AllPairsByRecursion LinkBefore (flat_map said ls)
-said_rise ls rise = flat_pairs LinkBefore said (λ _. Unit {0}) (λ l k. one l (says_nothing l)) ls (all_true ls) (weaker_pairs LinkBefore (λ x y. Across LinkBefore (said x) (said y)) (λ x y before. across x y before (says_nothing x) (says_nothing y)) ls rise)
+said_rise ls rise = flat_pairs LinkBefore said (λ _. Unit {0}) (λ l k. one l (says_nothing l)) ls (all_unit ls) (weaker_pairs LinkBefore (λ x y. Across LinkBefore (said x) (said y)) (λ x y before. across x y before (says_nothing x) (says_nothing y)) ls rise)
   where
     one : (l : Link) (t : Bool) → AllPairsByRecursion LinkBefore (cond t [] (l ∷ []))
     one l true = tt
@@ -203,10 +199,6 @@ below_known all (x ∷ xs) (b ∷ bs) same h =
 all_parts : {X : Type 0} (p : X → Bool) (xs ys : List X) → list_all p (xs ++ ys) ≡ true → (list_all p xs ≡ true) × (list_all p ys ≡ true)
 all_parts p [] ys h = (refl, h)
 all_parts p (x ∷ xs) ys h = let it = and_parts (p x) (list_all p (xs ++ ys)) h in let more = all_parts p xs ys it.1 in (rw (it.0, more.0) refl, more.1)
-
-all_both : {X : Type 0} (p : X → Bool) (xs ys : List X) → list_all p xs ≡ true → list_all p ys ≡ true → list_all p (xs ++ ys) ≡ true
-all_both p [] ys h k = k
-all_both p (x ∷ xs) ys h k = let it = and_parts (p x) (list_all p xs) h in rw (it.0, all_both p xs ys it.1 k) refl
 
 abbrev pub IsLate : Link → Type 0
 IsLate l = AllByRecursion (λ (t : Taken). l.below ≤ t.number) l.taken
@@ -242,9 +234,9 @@ late_to (l ∷ ls) up h =
     let behind : AllByRecursion (λ (r : LinkColumns). same_text r.system l.name ≡ false) rest = all_flat_of (λ (r : LinkColumns). same_text r.system l.name ≡ false) (LinkBefore l) links_of (λ x before. each_link (λ r. same_text r.system l.name ≡ false) x.name (λ below. later_other l.name x.name before) x.below) ls up.0 in
     let others : AllByRecursion (λ (t : TakenColumns). same_text l.name t.system ≡ false) (flat_map taken_rows ls) = all_flat_of (λ (t : TakenColumns). same_text l.name t.system ≡ false) (LinkBefore l) taken_rows (λ x before. each_made (λ (t : TakenColumns). same_text l.name t.system ≡ false) (taken_columns x.name) (λ taken. earlier_other l.name x.name before) x.taken) ls up.0 in
     all_append (λ t. may_be_asked (links_of l ++ rest) t ≡ true) (taken_rows l) (flat_map taken_rows ls)
-    (all_mapped (λ t. may_be_asked (links_of l ++ rest) t ≡ true) (taken_columns l.name) l.taken (all_weaker _ _ (λ t k. all_both (may_ask (taken_columns l.name t)) (links_of l) rest (own_late l.name l.below t k) (others_late rest (taken_columns l.name t) behind)) l.taken h.0))
+    (all_mapped (λ t. may_be_asked (links_of l ++ rest) t ≡ true) (taken_columns l.name) l.taken (all_weaker _ _ (λ t k. list_all_both (may_ask (taken_columns l.name t)) (links_of l) rest (own_late l.name l.below t k) (others_late rest (taken_columns l.name t) behind)) l.taken h.0))
     (both (λ (t : TakenColumns). same_text l.name t.system ≡ false) (λ t. may_be_asked rest t ≡ true) (λ t. may_be_asked (links_of l ++ rest) t ≡ true)
-    (λ t apart k. all_both (may_ask t) (links_of l) rest (others_late (links_of l) t (each_link (λ r. same_text r.system t.system ≡ false) l.name (λ below. apart) l.below)) k) (flat_map taken_rows ls) others (late_to ls up.1 h.1))
+    (λ t apart k. list_all_both (may_ask t) (links_of l) rest (others_late (links_of l) t (each_link (λ r. same_text r.system t.system ≡ false) l.name (λ below. apart) l.below)) k) (flat_map taken_rows ls) others (late_to ls up.1 h.1))
 
 -- ---- the links whose rows these are
 
@@ -299,7 +291,7 @@ links_from_rows next rows links taken rise h =
     let given : AllByRecursion (IsGiven next) all = unflat (λ t. is_given next t ≡ true) taken_rows all (subst (AllByRecursion (λ t. is_given next t ≡ true)) (sym taken_same) (each_from (is_given next) taken b.1)) in
     let late : AllByRecursion IsLate all = late_from all (subst (λ rows. AllByRecursion (λ t. may_be_asked rows t ≡ true) (flat_map taken_rows all)) (sym links_same) (subst (AllByRecursion (λ t. may_be_asked links t ≡ true)) (sym taken_same) (each_from (may_be_asked links) taken c.1))) in
     let order : AllPairsByRecursion BelowBefore low.items = risen below_head system_before BelowBefore (λ x y. less_is _) (λ x y z. nat_list_cmp_total.trans x.columns.name y.columns.name z.columns.name) low.items (ap (rises system_before) low.heads ∙ rise) in
-    let known : AllByRecursion (λ (l : Link). IsTrue (knows rows l.name)) all = each_paired (λ (b : Below). IsTrue (knows rows b.columns.name)) (λ _. Unit {0}) (λ (l : Link). IsTrue (knows rows l.name)) (λ b t k u. k) low.items took.items (below_known rows rows low.items low.heads (self_known rows)) (all_true took.items) in
+    let known : AllByRecursion (λ (l : Link). IsTrue (knows rows l.name)) all = each_paired (λ (b : Below). IsTrue (knows rows b.columns.name)) (λ _. Unit {0}) (λ (l : Link). IsTrue (knows rows l.name)) (λ b t k u. k) low.items took.items (below_known rows rows low.items low.heads (self_known rows)) (all_unit took.items) in
     let parts = each_paired IsBelow IsTook (λ l. (l.below ≤ numbers_end) × AllPairsByRecursion Lower l.taken) (λ b t k u. (k, u)) low.items took.items low.good took.good in
     let almost : AllByRecursion (IsAlmost next) all =
     both (λ l. (l.below ≤ numbers_end) × AllPairsByRecursion Lower l.taken) (λ l. IsGiven next l × IsLate l) (IsAlmost next) (λ l p q. record { below = p.0; rising = p.1; given = q.0; late = q.1 }) all parts (both (IsGiven next) IsLate (λ l. IsGiven next l × IsLate l) (λ l p q. (p, q)) all given late) in

@@ -5,7 +5,7 @@ use Rattle.std.proofs.lemmas.List.{length-drop, take-append-drop}
 use Rattle.std.proofs.lemmas.Bool.{eq-eqb}
 use Rattle.std.proofs.lemmas.List.Elements.{recursion_from_All}
 use Rattle.std.proofs.Math.Seq.{take-append_seam, drop-append_seam}
-use Rattle.uu_names.proofs.Basics.{earlier_other, text_to, pairs_by_recursion, all_weaker, all_flat, AllPairsByRecursion}
+use Rattle.uu_names.proofs.Basics.{earlier_other, text_to, pairs_by_recursion, all_weaker, all_flat, AllPairsByRecursion, all_unit}
 use Rattle.uu_times.specs.declared.system.Line.{Line}
 use Rattle.uu_core.specs.declared.system.Outcome.{Outcome}
 use Rattle.uu_core.specs.declared.system.Outcome.TheVariants.{Never, Failed, Done}
@@ -87,11 +87,7 @@ NameBefore a b = ComesBefore a.def.name b.def.name
 lines_apart : (rows : List SystemRow) → AllPairsByRecursion NameBefore rows → AllPairsByRecursion (Apart owns_range fits_line line_columns ranges_of line.IsGoodLine) (flat_map placed rows)
 lines_apart rows rise =
     weaker_pairs system.Differ (Apart owns_range fits_line line_columns ranges_of line.IsGoodLine) (λ p q differ. line.ranges_owned (line_columns p) q false differ) (flat_map placed rows)
-    (flat_pairs system.Differ placed (λ _. Unit {0}) (λ row g. system.lines_differ row) rows (each_unit rows) (weaker_pairs NameBefore _ system.systems_differ rows rise))
-  where
-    each_unit : (rows : List SystemRow) → AllByRecursion (λ _. Unit {0}) rows
-    each_unit [] = tt
-    each_unit (row ∷ rows) = (tt, each_unit rows)
+    (flat_pairs system.Differ placed (λ _. Unit {0}) (λ row g. system.lines_differ row) rows (all_unit rows) (weaker_pairs NameBefore _ system.systems_differ rows rise))
 
 -- no system has the lines of another
 systems_apart : (rows : List SystemRow) → AllPairsByRecursion NameBefore rows → AllPairsByRecursion (Apart system.owns system.fits system_columns placed system.IsGoodSystem) rows

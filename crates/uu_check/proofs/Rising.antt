@@ -7,7 +7,7 @@ use Rattle.std.specs.Ordering.{is_lt, nat_cmp, ordering_then}
 use Rattle.std.proofs.lemmas.Cmp.{nat_list_cmp_total, nat_cmp_total, tied_itself}
 use Rattle.std.proofs.lemmas.List.{map-id}
 use Rattle.std.proofs.lemmas.List.Elements.{recursion_from_All}
-use Rattle.uu_names.proofs.Basics.{less_is, pairs_by_recursion, all_weaker, AllPairsByRecursion}
+use Rattle.uu_names.proofs.Basics.{less_is, pairs_by_recursion, all_weaker, AllPairsByRecursion, lt-nat_cmp}
 use Rattle.uu_times.specs.declared.system.Line.{Line}
 use Rattle.uu_times.specs.Ranges.{AreRunsFrom}
 use Rattle.uu_core.specs.declared.job.JobHead.{JobHead}
@@ -31,11 +31,6 @@ use Rattle.uu_check.proofs.Lines.{IsGoodLine}
 use Rattle.uu_check.proofs.LinkRows.{LinkBefore, IsBelow, below_head, below_rows, below_of_rows, BelowBefore}
 use Rattle.uu_check.proofs.Verdict.{good_lines}
 
--- ---- comparisons
-
-lower : (a b : ℕ) → a < b → nat_cmp a b ≡ Less
-lower a b h = search (arith, h)
-
 -- ---- lines
 
 abbrev LineBefore : PlacedLine → PlacedLine → Type 0
@@ -43,7 +38,7 @@ LineBefore a b = line_cmp (line_columns a) (line_columns b) ≡ Less
 
 later_lines : (name : List ℕ) (line : Line) (here place : ℕ) (lines : List Line) → here < place → AllByRecursion (LineBefore (record { system = name; place = here; line = line })) (placed_from name place lines)
 later_lines name line here place [] below = tt
-later_lines name line here place (next ∷ lines) below = (rw (tied_itself nat_list_cmp_total name) (lower here place below), later_lines name line here (place + 1) lines (omega (arith, below)))
+later_lines name line here place (next ∷ lines) below = (rw (tied_itself nat_list_cmp_total name) (lt-nat_cmp here place below), later_lines name line here (place + 1) lines (omega (arith, below)))
 
 own_lines : (name : List ℕ) (place : ℕ) (lines : List Line) → AllPairsByRecursion LineBefore (placed_from name place lines)
 own_lines name place [] = tt
@@ -68,7 +63,7 @@ RangeBefore a b = range_cmp a b ≡ Less
 later_ranges : (system : List ℕ) (place : ℕ) (range : ℕ × ℕ) (start : ℕ) (ranges : List (ℕ × ℕ)) → range.0 < start → AreRunsFrom start ranges → AllByRecursion (RangeBefore (range_columns system place range)) (map (range_columns system place) ranges)
 later_ranges system place range start [] below runs = tt
 later_ranges system place range start (next ∷ ranges) below runs =
-    (rw (tied_itself nat_list_cmp_total system, tied_itself nat_cmp_total place) (lower range.0 next.0 (omega (arith, below, runs.0))), later_ranges system place range (next.1 + 2) ranges (omega (arith, below, runs.0, runs.1)) runs.3)
+    (rw (tied_itself nat_list_cmp_total system, tied_itself nat_cmp_total place) (lt-nat_cmp range.0 next.0 (omega (arith, below, runs.0))), later_ranges system place range (next.1 + 2) ranges (omega (arith, below, runs.0, runs.1)) runs.3)
 
 own_ranges : (system : List ℕ) (place start : ℕ) (ranges : List (ℕ × ℕ)) → AreRunsFrom start ranges → AllPairsByRecursion RangeBefore (map (range_columns system place) ranges)
 own_ranges system place start [] runs = tt
@@ -102,7 +97,7 @@ first job place bytes = record { job = job; place = place; bytes = take 16384 by
 
 later_pieces : (p : Piece) (place n : ℕ) (bytes : List ℕ) → p.place < place → AllByRecursion (PieceBefore p) (pieces_from p.job place n bytes)
 later_pieces p place zero bytes below = tt
-later_pieces p place (suc n) bytes below = (rw (tied_itself nat_cmp_total p.job) (lower p.place place below), later_pieces p (place + 1) n _ (omega (arith, below)))
+later_pieces p place (suc n) bytes below = (rw (tied_itself nat_cmp_total p.job) (lt-nat_cmp p.place place below), later_pieces p (place + 1) n _ (omega (arith, below)))
 
 own_pieces : (job place n : ℕ) (bytes : List ℕ) → AllPairsByRecursion PieceBefore (pieces_from job place n bytes)
 own_pieces job place zero bytes = tt
@@ -110,7 +105,7 @@ own_pieces job place (suc n) bytes = (later_pieces (first job place bytes) (plac
 
 other_pieces : (p : Piece) (job place n : ℕ) (bytes : List ℕ) → p.job < job → AllByRecursion (PieceBefore p) (pieces_from job place n bytes)
 other_pieces p job place zero bytes below = tt
-other_pieces p job place (suc n) bytes below = (rw (lower p.job job below) refl, other_pieces p job (place + 1) n _ below)
+other_pieces p job place (suc n) bytes below = (rw (lt-nat_cmp p.job job below) refl, other_pieces p job (place + 1) n _ below)
 
 across_from : (low place n : ℕ) (bytes : List ℕ) (job m : ℕ) (others : List ℕ) → low < job → Across PieceBefore (pieces_from low place n bytes) (pieces_from job 0 m others)
 across_from low place zero bytes job m others below = tt
@@ -162,7 +157,7 @@ abbrev TakenBefore : TakenColumns → TakenColumns → Type 0
 TakenBefore a b = taken_cmp a b ≡ Less
 
 own_taken : (name : List ℕ) (ts : List Taken) → AllPairsByRecursion (λ (a b : Taken). a.number < b.number) ts → AllPairsByRecursion TakenBefore (map (taken_columns name) ts)
-own_taken name ts rise = mapped_pairs TakenBefore (taken_columns name) ts (weaker_pairs (λ (a b : Taken). a.number < b.number) (λ a b. TakenBefore (taken_columns name a) (taken_columns name b)) (λ a b below. rw (tied_itself nat_list_cmp_total name) (lower a.number b.number below)) ts rise)
+own_taken name ts rise = mapped_pairs TakenBefore (taken_columns name) ts (weaker_pairs (λ (a b : Taken). a.number < b.number) (λ a b. TakenBefore (taken_columns name a) (taken_columns name b)) (λ a b below. rw (tied_itself nat_list_cmp_total name) (lt-nat_cmp a.number b.number below)) ts rise)
 
 across_taken : (a b : List ℕ) (ts us : List Taken) → ComesBefore a b → Across TakenBefore (map (taken_columns a) ts) (map (taken_columns b) us)
 across_taken a b [] us before = tt

@@ -1,7 +1,5 @@
 -- A name that is searched for among rows in the order of their names.
-use Rattle.std.proofs.Common.{◌≡◌, ℕ, zero, suc, ◌<◌, ◌≤◌, Bool, true, false, List, [], ◌∷◌, length, get_or, not, All, Less, Equal, ◌||◌, ◌&&◌, ◌⊎◌, inl, inr, refl, sym, ap, subst, ◌∙◌, arith}
-use Rattle.std.specs.Prelude.{nat_lt}
-use Rattle.std.proofs.lemmas.Bool.Decides.{nat_tests}
+use Rattle.std.proofs.Common.{◌≡◌, ℕ, zero, suc, ◌<◌, ◌≤◌, Bool, true, false, List, [], ◌∷◌, length, get_or, not, All, Less, Equal, ◌||◌, inl, inr, refl, sym, ap, subst, ◌∙◌, arith}
 use Rattle.std.specs.List.{AllByRecursion, list_all, list_any, HoldsAt}
 use Rattle.std.specs.List.Sorted.{IsPartitionPoint, IsNonDecreasingBy}
 use Rattle.std.specs.declared.cmp.Ordering.{Ordering}
@@ -11,20 +9,14 @@ use Rattle.std.specs.Cmp.Lexicographic.{slice_cmp}
 use Rattle.std.proofs.lemmas.Cmp.{nat_list_cmp_total, tied_itself}
 use Rattle.std.proofs.lemmas.List.Folds.{list_any_none}
 use Rattle.std.proofs.lemmas.Map.Lookups.{exact_bytes}
-use Rattle.std.proofs.lemmas.Bool.{false_from_ne_true}
+use Rattle.std.proofs.lemmas.Bool.{false_from_ne_true, cases_lt, or_right}
 use Rattle.std.proofs.lemmas.List.{map-id}
 use Rattle.std.proofs.lemmas.List.Elements.{recursion_from_All, All-from_recursion}
+use Rattle.std.proofs.Math.Bool.{and-true}
 use Rattle.uu_names.proofs.Basics.{earlier_other, before_differs, less_is, text_from, text_to, all_weaker, AllPairsByRecursion}
 use Rattle.uu_core.specs.State.{ComesBefore, same_text}
 use Rattle.uu_check.specs.Walk.{rises}
 use Rattle.uu_check.proofs.Lists.{pairs_by_place, risen}
-
-below_or : (i j : ℕ) → (i < j) ⊎ (j ≤ i)
-below_or i j = go (nat_lt i j) refl
-  where
-    go : (t : Bool) → nat_lt i j ≡ t → (i < j) ⊎ (j ≤ i)
-    go true h = inl (grind (arith, nat_tests, h))
-    go false h = inr (grind (arith, nat_tests, h))
 
 unequal : (a b : List ℕ) (r : Ordering) → slice_cmp nat_cmp a b ≡ r → (r ≡ Equal → ⊥) → same_text a b ≡ false
 unequal a b r is other = false_from_ne_true (same_text a b) (λ e. other (sym is ∙ ap (λ n. slice_cmp nat_cmp a n) (sym (text_from a b e)) ∙ tied_itself nat_list_cmp_total a))
@@ -58,23 +50,19 @@ module _ {X : Type 0} (name_of : X → List ℕ) where
   pub found : (name : List ℕ) (xs : List X) (i : ℕ) → i < length xs → HoldsAt (λ x. place_of name x ≡ Equal) xs i → list_any (λ x. same_text (name_of x) name) xs ≡ true
   found name [] i low h = absurd (omega (arith, low))
   found name (x ∷ xs) zero low h = let same : name_of x ≡ name = exact_bytes (name_of x) name (h x) in rw (same, text_to name) refl
-  found name (x ∷ xs) (suc i) low h = or_true (same_text (name_of x) name) _ (found name xs i (omega (arith, low)) h)
-    where
-      or_true : (a b : Bool) → b ≡ true → (a || b) ≡ true
-      or_true true b k = refl
-      or_true false b k = k
+  found name (x ∷ xs) (suc i) low h = or_right (same_text (name_of x) name) _ (found name xs i (omega (arith, low)) h)
 
   ordered : (xs : List X) → rises before xs ≡ true → AllPairsByRecursion Before xs
   ordered xs h = risen (λ x. x) before Before (λ x y. less_is _) (λ x y z. nat_list_cmp_total.trans (name_of x) (name_of y) (name_of z)) xs (ap (rises before) (map-id xs) ∙ h)
 
   missing : (name : List ℕ) (xs : List X) (i : ℕ) → IsPartitionPoint (λ x. place_of name x ≡ Less) (λ x. place_of name x ≡ Greater) xs i → All (λ x. same_text (name_of x) name ≡ false) xs
-  missing name xs i h k d inside = elim (below_or k i) [
+  missing name xs i h k d inside = elim (cases_lt k i) [
     | inl low ↦ unequal _ name Less (h.0 k d (omega arith) low) (λ e. cc)
     | inr high ↦ unequal _ name Greater (h.1 k d high inside) (λ e. cc)
   ]
 
   climb : (name : List ℕ) (xs : List X) → rises before xs ≡ true → IsNonDecreasingBy (λ x. ordering_index (place_of name x)) xs
-  climb name xs h i j d low inside = elim (below_or i j) [
+  climb name xs h i j d low inside = elim (cases_lt i j) [
     | inl less ↦ climbs _ _ name (pairs_by_place Before xs (ordered xs h) i j d less inside)
     | inr high ↦ let same : i ≡ j = omega (arith, low, high) in rw same (omega arith)
   ]
@@ -104,11 +92,7 @@ module _ {X : Type 0} (name_of : X → List ℕ) where
     one_of : (name : List ℕ) (d : X) (xs : List X) (i : ℕ) → AllPairsByRecursion Before xs → i < length xs → name_of (get_or xs i d) ≡ name → list_all (answer name) xs ≡ asked (get_or xs i d)
     one_of name d [] i up low same = absurd (omega (arith, low))
     one_of name d (x ∷ xs) zero up low same =
-        rw (same, text_to name, others name xs (all_weaker (Before x) (λ y. same_text (name_of y) name ≡ false) (λ y b. false_from_ne_true (same_text (name_of y) name) (λ e. before_differs (name_of x) (name_of y) b (same ∙ sym (text_from (name_of y) name e)))) xs up.0)) (and_one (asked x))
-      where
-        and_one : (b : Bool) → (b && true) ≡ b
-        and_one true = refl
-        and_one false = refl
+        rw (same, text_to name, others name xs (all_weaker (Before x) (λ y. same_text (name_of y) name ≡ false) (λ y b. false_from_ne_true (same_text (name_of y) name) (λ e. before_differs (name_of x) (name_of y) b (same ∙ sym (text_from (name_of y) name e)))) xs up.0)) (and-true (asked x))
     one_of name d (x ∷ xs) (suc i) up low same =
         let inside : i < length xs = omega (arith, low) in
         let ahead : ComesBefore (name_of x) name = subst (ComesBefore (name_of x)) same (All-from_recursion (Before x) xs up.0 i d inside) in

@@ -1,11 +1,11 @@
 -- Rows that a walk accepts are those of a list of items, each with one row and the rows that belong
 -- to it.
-use Rattle.std.proofs.Common.{◌≡◌, ℕ, zero, suc, ◌+◌, Bool, true, false, cond, ◌==◌, List, [], ◌∷◌, ◌++◌, map, length, take, drop, refl, sym, ap, subst, ◌∙◌, arith}
+use Rattle.std.proofs.Common.{◌≡◌, suc, ◌+◌, Bool, true, false, cond, ◌==◌, List, [], ◌∷◌, ◌++◌, map, length, take, drop, refl, sym, ap, subst, ◌∙◌, arith}
 use Rattle.std.specs.List.{AllByRecursion, prefix_len, flat_map}
 use Rattle.std.proofs.lemmas.Bool.{and_parts}
 use Rattle.std.proofs.lemmas.Bool.Decides.{nat_tests}
 use Rattle.std.proofs.Math.Seq.{take-append_seam, drop-append_seam}
-use Rattle.std.proofs.lemmas.List.{take-append-drop}
+use Rattle.std.proofs.lemmas.List.{take-append-drop, take-map, drop-map, length-map}
 use Rattle.uu_names.proofs.Basics.{all_flat, AllPairsByRecursion}
 use Rattle.uu_check.specs.Walk.{walk}
 
@@ -73,28 +73,14 @@ module _ {X P C : Type 0} (owns : P → C → Bool) (fits : P → List C → Boo
 -- a walk over mapped children
 pub walk_mapped : {P C D : Type 0} (owns : P → D → Bool) (fits : P → List D → Bool) (f : C → D) (ps : List P) (cs : List C)
     → walk owns fits ps (map f cs) ≡ walk (λ p c. owns p (f c)) (λ p l. fits p (map f l)) ps cs
-walk_mapped owns fits f [] cs = ap (λ n. n == 0) (length_map f cs)
-  where
-    length_map : {C D : Type 0} (f : C → D) (cs : List C) → length (map f cs) ≡ length cs
-    length_map f [] = refl
-    length_map f (c ∷ cs) = ap suc (length_map f cs)
+walk_mapped owns fits f [] cs = ap (λ n. n == 0) (length-map cs f)
 walk_mapped owns fits f (p ∷ ps) cs =
     let n = prefix_len (λ c. owns p (f c)) cs in
-    rw (prefix f (owns p) cs, take_of f n cs, drop_of f n cs, walk_mapped owns fits f ps (drop n cs)) refl
+    rw (prefix f (owns p) cs, take-map f n cs, drop-map f n cs, walk_mapped owns fits f ps (drop n cs)) refl
   where
     prefix : {C D : Type 0} (f : C → D) (q : D → Bool) (cs : List C) → prefix_len q (map f cs) ≡ prefix_len (λ c. q (f c)) cs
     prefix f q [] = refl
     prefix f q (c ∷ cs) = ap (λ n. cond (q (f c)) (1 + n) 0) (prefix f q cs)
-
-    take_of : {C D : Type 0} (f : C → D) (n : ℕ) (cs : List C) → take n (map f cs) ≡ map f (take n cs)
-    take_of f zero cs = refl
-    take_of f (suc n) [] = refl
-    take_of f (suc n) (c ∷ cs) = ap (λ l. f c ∷ l) (take_of f n cs)
-
-    drop_of : {C D : Type 0} (f : C → D) (n : ℕ) (cs : List C) → drop n (map f cs) ≡ map f (drop n cs)
-    drop_of f zero cs = refl
-    drop_of f (suc n) [] = refl
-    drop_of f (suc n) (c ∷ cs) = drop_of f n cs
 
 -- Items with the same rows, each told by its own row and by those that belong to it.
 module _ {X P C : Type 0} (owns : P → C → Bool) (fits : P → List C → Bool) (head : X → P) (kids : X → List C) (Good : X → Type 0) where

@@ -1,11 +1,11 @@
 -- What is accepted, and why.
 use Rattle.std.proofs.Common.{◌≡◌, ℕ, Bool, true, false, cond, ◌==◌, List, [], Option, Some, None, Ok, Err, refl, ap, sym, ◌∙◌}
+use Rattle.std.proofs.lemmas.Bool.{false≢true}
 use Rattle.uu_core.specs.declared.custody.HandIn.TheVariants.{First}
 use Rattle.uu_core.specs.declared.custody.Key.{Key}
 use Rattle.uu_core.specs.declared.custody.Taken.{Taken}
 use Rattle.uu_core.specs.declared.job.NewJob.{NewJob}
 use Rattle.uu_core.specs.declared.command.Command.{Command}
-use Rattle.uu_core.specs.declared.command.Reply.TheVariants.{Refused}
 use Rattle.uu_core.specs.declared.refusal.Refusal.{Refusal}
 use Rattle.uu_core.specs.Refusal.{decided, first_reason, value_unless}
 use Rattle.uu_core.specs.State.{State, numbers_end}
@@ -16,9 +16,6 @@ use Rattle.uu_core.proofs.WellFormedLemmas.{once_accepted}
 
 pub carried : (state : State) (command : Command) → verdict state command ≡ None → after state command ≡ (accept state command, reply_to state command)
 carried state command e = ap (λ v. after_verdict v state command) e
-
-pub turned_down : (state : State) (command : Command) (refusal : Refusal) → verdict state command ≡ Some refusal → after state command ≡ (state, Refused refusal)
-turned_down state command refusal e = ap (λ v. after_verdict v state command) e
 
 pub none_decided : {V : Type 0} (reasons : List (Bool × Refusal)) (value x : V) → decided reasons value ≡ Ok x → (first_reason reasons ≡ None) × (value ≡ x)
 none_decided {V} reasons value x e = by_first (first_reason reasons) e
@@ -43,7 +40,4 @@ first_room known next below taken key job number e =
     (why.0, why.2, first.1)
 
 pub not_last : (next number : ℕ) → (next == numbers_end) ≡ false → next ≡ number → number ≡ 4294967295 → ⊥
-not_last next number free same e = apart (sym free ∙ ap (λ n. n == numbers_end) (same ∙ e))
-  where
-    apart : false ≡ true → ⊥
-    apart q = cc
+not_last next number free same e = false≢true (sym free ∙ ap (λ n. n == numbers_end) (same ∙ e))

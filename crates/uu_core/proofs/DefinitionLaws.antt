@@ -1,12 +1,14 @@
 -- The definitions of a state's systems are such as are printed and read back.
-use Rattle.std.proofs.Common.{◌≡◌, ℕ, ◌≤◌, Bool, true, false, cond, List, [], ◌∷◌, ◌++◌, length, map, filter, Option, Some, None, All, AllPairs, refl, ap, ap₂, sym, subst, ◌∙◌, arith, append-nil, append_assoc}
+use Rattle.std.proofs.Common.{◌≡◌, ℕ, ◌≤◌, true, false, List, [], ◌∷◌, ◌++◌, length, map, filter, Option, Some, None, All, AllPairs, ap, ap₂, sym, subst, ◌∙◌, arith, append-nil, append_assoc}
 use Rattle.std.specs.Cmp.Lexicographic.{bytes_decides}
 use Rattle.std.specs.Ordering.{is_lt, ordering_reverse}
 use Rattle.std.proofs.lemmas.Cmp.{nat_list_cmp_total}
 use Rattle.std.proofs.lemmas.List.{map-append}
 use Rattle.std.proofs.lemmas.List.Elements.{All-filter, All-head, All-map, All-nil, All-push, All-tail, All-weaker, filter_passes}
 use Rattle.std.proofs.lemmas.List.Kept.{AllPairs-filter}
+use Rattle.std.proofs.lemmas.Bool.{both_ways}
 use Rattle.uu_names.specs.Text.{most_text}
+use Rattle.uu_names.proofs.Basics.{pairs_first, pairs_rest, filter_none, filter_passing}
 use Rattle.uu_times.specs.Printed.{IsSystem, NamesDiffer, sys_text}
 use Rattle.uu_times.specs.System.{System}
 use Rattle.uu_core.specs.Definitions.{definitions_of}
@@ -16,16 +18,12 @@ use Rattle.uu_core.specs.declared.command.Command.TheVariants.{Define}
 use Rattle.uu_core.specs.State.{State, empty, IsDefinition, IsWellFormed, ComesBefore, is_system, system_at}
 use Rattle.uu_core.specs.declared.system.SystemRow.{SystemRow}
 use Rattle.uu_core.proofs.NextCallLemmas.{not_same}
-use Rattle.uu_core.proofs.WellFormedLemmas.{pairs_first, pairs_rest}
 
 abbrev by_name : SystemRow → SystemRow → Type 0
 by_name a b = ComesBefore a.def.name b.def.name
 
-true_false : {t : Bool} → t ≡ true → t ≡ false → ⊥
-true_false q r = cc
-
 differ : (a b : List ℕ) → ComesBefore a b → ¬ (a ≡ b)
-differ a b before same = true_false ((bytes_decides a b).1 same) (not_same a b before)
+differ a b before same = both_ways _ (not_same a b before) ((bytes_decides a b).1 same)
 
 are_systems : (rows : List SystemRow) → All (λ (row : SystemRow). IsDefinition row.def) rows → All IsSystem (map (λ (row : SystemRow). row.def) rows)
 are_systems rows defined =
@@ -70,18 +68,6 @@ short_text state name short good =
 
 -- ---- loaded again
 
-all_kept : (p : SystemRow → Bool) (rows : List SystemRow) → All (λ row. p row ≡ true) rows → filter p rows ≡ rows
-all_kept p [] passes = refl
-all_kept p (row ∷ rows) passes =
-    ap (λ b. cond b (row ∷ filter p rows) (filter p rows)) (All-head (λ r. p r ≡ true) row rows passes)
-    ∙ ap (λ (l : List SystemRow). row ∷ l) (all_kept p rows (All-tail (λ r. p r ≡ true) row rows passes))
-
-none_kept : (p : SystemRow → Bool) (rows : List SystemRow) → All (λ row. p row ≡ false) rows → filter p rows ≡ []
-none_kept p [] fails = refl
-none_kept p (row ∷ rows) fails =
-    ap (λ b. cond b (row ∷ filter p rows) (filter p rows)) (All-head (λ r. p r ≡ false) row rows fails)
-    ∙ none_kept p rows (All-tail (λ r. p r ≡ false) row rows fails)
-
 abbrev name_of : SystemRow → List ℕ
 name_of row = row.def.name
 
@@ -89,8 +75,8 @@ name_of row = row.def.name
 put_last : (item : SystemRow) (rows : List SystemRow) → All (λ row. by_name row item) rows → put_system item rows ≡ rows ++ item ∷ []
 put_last item rows before =
     ap₂ (λ (earlier later : List SystemRow). earlier ++ item ∷ later)
-    (all_kept (λ other. is_before name_of other item) rows (All-weaker (λ row. by_name row item) (λ row. is_before name_of row item ≡ true) (λ row less. ap is_lt less) rows before))
-    (none_kept (λ other. is_before name_of item other) rows
+    (filter_passing (λ (other : SystemRow). is_before name_of other item) rows (All-weaker (λ row. by_name row item) (λ row. is_before name_of row item ≡ true) (λ row less. ap is_lt less) rows before))
+    (filter_none (λ (other : SystemRow). is_before name_of item other) rows
     (All-weaker (λ row. by_name row item) (λ row. is_before name_of item row ≡ false)
     (λ row less. ap is_lt (nat_list_cmp_total.antisymm item.def.name row.def.name ∙ ap ordering_reverse less)) rows before))
 

@@ -5,12 +5,13 @@ use Rattle.std.specs.List.{list_any}
 use Rattle.std.specs.Set.{distinct_count, unique_keys}
 use Rattle.std.proofs.lemmas.Map.Made.{distinct_count-le}
 use Rattle.std.proofs.lemmas.Bool.Decides.{nat_tests}
+use Rattle.std.proofs.lemmas.Cmp.{nat_eq_equiv}
+use Rattle.uu_names.proofs.Basics.{first_of, later_of, some_passes, passing_one, and_first}
 use Rattle.uu_core.specs.declared.job.JobHead.{JobHead}
 use Rattle.uu_core.specs.declared.refusal.Refusal.TheVariants.{NoSystem, NoJob, JobTwice, OtherSystem, TooLarge}
 use Rattle.uu_core.specs.State.{same_text}
 use Rattle.uu_core.specs.Verdict.{has_number, is_missing_one, has_repeat, has_other, done_reasons}
 use Rattle.uu_core.specs.Laws.{is_named, AreFound}
-use Rattle.uu_core.proofs.Members.{first_of, later_of, some_passes, passing_one}
 
 any_agrees : {X : Type 0} (p q : X → Bool) (xs : List X) → ((x : X) → Contains xs x → p x ≡ q x) → list_any p xs ≡ list_any q xs
 any_agrees p q [] h = refl
@@ -24,14 +25,11 @@ abbrev pub repeats : List ℕ → Bool
 repeats [] = false
 repeats (number ∷ numbers) = list_any (λ other. other == number) numbers || repeats numbers
 
-flips : (a b : ℕ) → (a == b) ≡ nat_eq b a
-flips a b = grind (arith, nat_tests)
-
 pub repeats_is : (numbers : List ℕ) → repeats numbers ≡ has_repeat numbers
 repeats_is [] = refl
 repeats_is (number ∷ numbers) =
     ap (λ b. list_any (λ other. other == number) numbers || b) (repeats_is numbers)
-    ∙ ap (λ b. b || has_repeat numbers) (any_agrees (λ other. other == number) (nat_eq number) numbers (λ other there. flips other number))
+    ∙ ap (λ b. b || has_repeat numbers) (any_agrees (λ other. other == number) (nat_eq number) numbers (λ other there. nat_eq_equiv.symm other number))
     ∙ by-test (list_any (nat_eq number) numbers) (distinct_count-le nat_eq numbers)
   where
     more : (a b : ℕ) → a ≤ b → true ≡ ltb a (suc b)
@@ -46,13 +44,6 @@ repeats_is (number ∷ numbers) =
 
 -- ---- jobs that were found
 
-turned : (a b : ℕ) → (a == b) ≡ true → (b == a) ≡ true
-turned a b e = grind (arith, nat_tests)
-
-and_first : (a b : Bool) → a && b ≡ true → a ≡ true
-and_first true b e = refl
-and_first false b e = e
-
 module _ (numbers : List ℕ) (jobs found : List JobHead) (h : AreFound numbers jobs found) where
   -- a test that passes only if a job is named finds one among those found if it finds one at all
   found_any : (p : JobHead → Bool) → ((job : JobHead) → p job ≡ true → is_named numbers job ≡ true) → list_any p found ≡ list_any p jobs
@@ -64,7 +55,7 @@ module _ (numbers : List ℕ) (jobs found : List JobHead) (h : AreFound numbers 
   missing_same : is_missing_one numbers found ≡ is_missing_one numbers jobs
   missing_same =
       any_agrees (λ number. not (has_number found number)) (λ number. not (has_number jobs number)) numbers
-      (λ number there. ap not (found_any (λ (job : JobHead). job.number == number) (λ job e. some_passes (λ n. n == job.number) numbers number there (turned job.number number e))))
+      (λ number there. ap not (found_any (λ (job : JobHead). job.number == number) (λ job e. some_passes (λ n. n == job.number) numbers number there (nat_eq_equiv.symm number job.number ∙ e))))
 
   other_same : (system : List ℕ) → has_other system numbers found ≡ has_other system numbers jobs
   other_same system =

@@ -4,9 +4,11 @@ use Rattle.std.specs.List.{list_all}
 use Rattle.std.specs.Cmp.Lexicographic.{bytes_decides}
 use Rattle.std.proofs.lemmas.Bool.Decides.{nat_tests}
 use Rattle.std.proofs.lemmas.List.Kept.{AllPairs-filter}
-use Rattle.std.proofs.lemmas.List.{map-append, take_more, length-append, get_or_append_left}
+use Rattle.std.proofs.lemmas.List.{map-append, take_more}
 use Rattle.std.proofs.lemmas.List.Elements.{All-contains, filter-append}
 use Rattle.std.proofs.lemmas.List.Sorted.{IsPermutation-refl, IsPermutation-sym, Contains-permutation}
+use Rattle.std.proofs.lemmas.Bool.{and_from, and_parts, both_ways, false≢true}
+use Rattle.uu_names.proofs.Basics.{first_of, later_of, first_or_later, in_filter, from_filter, none_in, all_pass, pairs_first, pairs_rest, pairs_front}
 use Rattle.uu_times.specs.declared.moment.Moment.{Moment}
 use Rattle.uu_core.specs.declared.due.Due.{Due}
 use Rattle.uu_core.specs.declared.job.JobHead.{JobHead}
@@ -14,14 +16,10 @@ use Rattle.uu_core.specs.declared.system.SystemRow.{SystemRow}
 use Rattle.uu_core.specs.State.{same_text}
 use Rattle.uu_core.specs.Queues.{jobs_for}
 use Rattle.uu_core.specs.Due.{may_go, goes_before, is_due, due_of, all_due, dues_of, ComesFirst, AreDue, AreInOrder}
-use Rattle.uu_core.proofs.Members.{first_of, later_of, first_or_later, kept, from_filter, none_in}
-use Rattle.uu_core.proofs.WellFormedLemmas.{pairs_first, pairs_rest, pairs_nil}
-use Rattle.uu_core.proofs.DueLemmas.{walk, with_next, walk_step, walk_is_due, due_same}
+use Rattle.uu_core.proofs.WellFormedLemmas.{pairs_nil}
+use Rattle.uu_core.proofs.DueLemmas.{walk, with_next, walk_step, walk_is_due, due_same, not_back, not_itself}
 
 -- ---- lists
-
-true_false : {t : Bool} → t ≡ true → t ≡ false → ⊥
-true_false q r = cc
 
 -- nothing that is there passes, so nothing is kept
 none_kept : {X : Type 0} (p : X → Bool) (xs : List X) → ((x : X) → Contains xs x → p x ≡ true → ⊥) → filter p xs ≡ []
@@ -49,12 +47,8 @@ one_kept {X} R p x (y ∷ ys) apart pairs there passes alone =
 
     by-test : (t : Bool) → p y ≡ t → (y ≡ x) ⊎ Contains ys x → (Contains ys x → filter p ys ≡ x ∷ []) → cond t (y ∷ filter p ys) (filter p ys) ≡ x ∷ []
     by-test true e place again = ap (λ (l : List X). y ∷ l) (none_kept p ys (gone e)) ∙ ap (λ (a : X). a ∷ []) (alone y (first_of y ys) e)
-    by-test false e (inl same) again = absurd (true_false (ap p same ∙ passes) e)
+    by-test false e (inl same) again = absurd (both_ways _ e (ap p same ∙ passes))
     by-test false e (inr later) again = again later
-
-all_pass : {X : Type 0} (p : X → Bool) (xs : List X) → ((x : X) → Contains xs x → p x ≡ true) → list_all p xs ≡ true
-all_pass p [] h = refl
-all_pass p (x ∷ xs) h = rw (h x (first_of x xs)) (all_pass p xs (λ y there. h y (later_of x y xs there)))
 
 passes_there : {X : Type 0} (p : X → Bool) (xs : List X) (x : X) → list_all p xs ≡ true → Contains xs x → p x ≡ true
 passes_there p [] x h there = absurd (none_in x there)
@@ -63,26 +57,12 @@ passes_there p (y ∷ xs) x h there = by-test (p y) refl h (first_or_later y x x
     by-test : (t : Bool) → p y ≡ t → t && list_all p xs ≡ true → (y ≡ x) ⊎ Contains xs x → (list_all p xs ≡ true → Contains xs x → p x ≡ true) → p x ≡ true
     by-test true e all (inl same) again = ap p (sym same) ∙ e
     by-test true e all (inr later) again = again all later
-    by-test false e all place again = absurd (true_false all refl)
+    by-test false e all place again = absurd (false≢true all)
 
 -- ---- jobs by grade and number
 
-not_back : (a b : JobHead) → goes_before a b ≡ true → goes_before b a ≡ false
-not_back a b h = grind (arith, nat_tests)
-
-not_itself : (a : JobHead) → goes_before a a ≡ false
-not_itself a = grind (arith, nat_tests)
-
 not_first : (a : Due) → ComesFirst a a → ⊥
 not_first a h = grind (arith, nat_tests)
-
-both_true : (a b : Bool) → a ≡ true → b ≡ true → a && b ≡ true
-both_true true b e f = f
-both_true false b e f = absurd (true_false e refl)
-
-both_of : (a b : Bool) → a && b ≡ true → (a ≡ true) × (b ≡ true)
-both_of true b e = (refl, e)
-both_of false b e = absurd (true_false e refl)
 
 not_all : (same goes before : Bool) → same ≡ true → goes ≡ true → before ≡ true → not (same && goes && before) ≡ true → ⊥
 not_all same goes before e f g h = cc
@@ -109,8 +89,8 @@ module _ (rows : List SystemRow) (at : Moment) (jobs own : List JobHead) (name :
   -- a job of the system that may go is one of them
   among : (job : JobHead) → Contains jobs job → job.system ≡ name → may_go rows at job ≡ true → Contains going job
   among job there named goes =
-      kept (may_go rows at) own job
-      (Contains-permutation (jobs_for name jobs) own job same (kept (λ (other : JobHead). same_text other.system name) jobs job there ((bytes_decides job.system name).1 named))) goes
+      in_filter (may_go rows at) own job
+      (Contains-permutation (jobs_for name jobs) own job same (in_filter (λ (other : JobHead). same_text other.system name) jobs job there ((bytes_decides job.system name).1 named))) goes
 
   -- and each of them is such a job
   of_them : (job : JobHead) → Contains going job → Contains jobs job × (job.system ≡ name) × (may_go rows at job ≡ true)
@@ -129,7 +109,7 @@ module _ (rows : List SystemRow) (at : Moment) (jobs own : List JobHead) (name :
   one_of : (d : Due) → Contains dues d → same_text d.system name ≡ true → IsOne d
   one_of d there named =
       let it = due.sound d there in
-      let parts = both_of (may_go rows at it.job) _ it.first in
+      let parts = and_parts (may_go rows at it.job) _ it.first in
       let system : it.job.system ≡ name = ap (λ (e : Due). e.system) (sym it.is) ∙ (bytes_decides d.system name).0 named in
       record {
         job = it.job;
@@ -180,7 +160,7 @@ module _ (rows : List SystemRow) (at : Moment) (jobs own : List JobHead) (name :
 
       is_first : is_due rows jobs at first ≡ true
       is_first =
-          both_true (may_go rows at first) _ first_is.2
+          and_from (may_go rows at first) _ first_is.2
           (all_pass (λ (other : JobHead). not (same_text other.system first.system && may_go rows at other && goes_before other first)) jobs none_before)
 
       alone : (d : Due) → Contains dues d → same_text d.system name ≡ true → d ≡ due_of first
@@ -229,13 +209,6 @@ one_list {X} R apart (x ∷ xs) (y ∷ ys) pairs others there back =
     by_first again (inr later) (inl same) = (λ i. same i ∷ rest again same i)
     by_first again (inr later) (inr behind_x) = absurd (apart x y (behind y behind_x) (behind_other x later))
 
--- the first of some in an order
-in_front : {X : Type 0} (R : X → X → Type 0) (xs ys : List X) → AllPairs R (xs ++ ys) → AllPairs R xs
-in_front R xs ys pairs i j d below within =
-    let long = length-append xs ys in
-    subst (λ a. R a (get_or xs j d)) (get_or_append_left xs ys d i (omega (arith, below, within)))
-    (subst (R (get_or (xs ++ ys) i d)) (get_or_append_left xs ys d j within) (pairs i j d below (omega (arith, long, within))))
-
 one_first : (a b : Due) → ComesFirst a b → ComesFirst b a → ⊥
 one_first a b h k = grind (arith, nat_tests)
 
@@ -252,7 +225,7 @@ pub one_more_due : (rows : List SystemRow) (at : Moment) (jobs : List JobHead) (
     → AreDue rows (jobs ++ job ∷ []) at (with_next rows at dues job)
 one_more_due rows at jobs job dues order due =
     subst (AreDue rows (jobs ++ job ∷ []) at)
-    (walk_step rows at jobs job ∙ ap (λ l. with_next rows at l job) (due_is_walked rows at jobs dues (in_front (λ a b. goes_before a b ≡ true) jobs (job ∷ []) order) due))
+    (walk_step rows at jobs job ∙ ap (λ l. with_next rows at l job) (due_is_walked rows at jobs dues (pairs_front (λ a b. goes_before a b ≡ true) jobs (job ∷ []) order) due))
     (walk_is_due rows at (jobs ++ job ∷ []) (jobs ++ job ∷ []) (IsPermutation-refl (jobs ++ job ∷ [])) order)
 
 pub due_in_any_order : (rows : List SystemRow) (at : Moment) (jobs ordered : List JobHead) (dues : List Due) → IsPermutation jobs ordered → AreDue rows ordered at dues → AreDue rows jobs at dues

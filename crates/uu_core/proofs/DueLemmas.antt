@@ -5,17 +5,18 @@ use Rattle.std.proofs.lemmas.Map.Keys.{apart_from_distinct, IsDistinct-IsPermuta
 use Rattle.std.proofs.lemmas.List.Kept.{AllPairs-filter}
 use Rattle.std.proofs.lemmas.List.Elements.{All-head, All-tail, All-contains, Contains-append_right}
 use Rattle.std.specs.Ordering.{is_lt, ordering_then}
-use Rattle.std.specs.Cmp.Lexicographic.{bytes_decides}
 use Rattle.std.proofs.lemmas.Bool.Decides.{nat_tests}
-use Rattle.std.proofs.lemmas.List.{take_more, drop_more, length-map, append-nil}
+use Rattle.std.proofs.lemmas.List.{take_more, drop_more, length-map, append-nil, get_or-map}
 use Rattle.std.proofs.lemmas.List.Sorted.{IsPermutation-sym, IsPermutation-map, Contains-permutation, list_any-IsPermutation}
+use Rattle.std.proofs.Math.Bool.{and-true, or-false, or_assoc}
+use Rattle.std.proofs.lemmas.Cmp.{nat_eq_equiv}
+use Rattle.uu_names.proofs.Basics.{first_of, in_filter, from_filter, in_map, from_map, and_first, pairs_first, pairs_rest, any_push, text_from}
 use Rattle.uu_times.specs.declared.moment.Moment.{Moment}
 use Rattle.uu_core.specs.declared.job.JobHead.{JobHead}
 use Rattle.uu_core.specs.declared.system.SystemRow.{SystemRow}
 use Rattle.uu_core.specs.declared.due.Due.{Due}
 use Rattle.uu_core.specs.State.{same_text, is_system}
 use Rattle.uu_core.specs.Due.{limit_now, is_within, may_be_called, may_go, goes_before, is_due, due_of, ComesFirst, AreDue, HaveNumbers, is_listed, AreInOrder}
-use Rattle.uu_core.proofs.Members.{first_of, kept, from_filter, mapped, from_map}
 
 -- ---- the walk
 
@@ -46,18 +47,6 @@ with_limit (Some other) lowest = max lowest other
 abbrev pub is_called_before : List SystemRow → Moment → List JobHead → List ℕ → Bool
 is_called_before rows at seen name = list_any (λ other. same_text other.system name && may_go rows at other) seen
 
-pub any_push : {X : Type 0} (p : X → Bool) (xs : List X) (x : X) → list_any p (xs ++ x ∷ []) ≡ list_any p xs || p x
-any_push p [] x = or-false (p x)
-  where
-    or-false : (b : Bool) → b || false ≡ b
-    or-false true = refl
-    or-false false = refl
-any_push p (y ∷ xs) x = ap (λ b. p y || b) (any_push p xs x) ∙ or-assoc (p y) _ _
-  where
-    or-assoc : (a b c : Bool) → a || (b || c) ≡ (a || b) || c
-    or-assoc true b c = refl
-    or-assoc false b c = refl
-
 -- ---- one more system
 
 pub limits_more : (rows : List SystemRow) (i : ℕ) (d : SystemRow) (at : Moment) (name : List ℕ) (grade : ℕ) → i < length rows → may_be_called (take (i + 1) rows) at name grade ≡ may_be_called (take i rows) at name grade || (is_system name (get_or rows i d) && is_within (limit_now (get_or rows i d) at) grade)
@@ -66,9 +55,6 @@ limits_more rows i d at name grade h =
 
 -- ---- one more job
 
-pub same_is : (a b : List ℕ) → same_text a b ≡ true → a ≡ b
-same_is a b = (bytes_decides a b).0
-
 -- the system of a job that is listed is free no more
 pub free_listed : (rows : List SystemRow) (at : Moment) (seen : List JobHead) (job : JobHead) (name : List ℕ) (grade : ℕ) (old new : Option ℕ) → is_within old grade ≡ (may_be_called rows at name grade && not (is_called_before rows at seen name)) → new ≡ cond (same_text job.system name) None old → may_go rows at job ≡ true → is_within new grade ≡ (may_be_called rows at name grade && not (is_called_before rows at (seen ++ job ∷ []) name))
 free_listed rows at seen job name grade old new h e may =
@@ -76,10 +62,6 @@ free_listed rows at seen job name grade old new h e may =
   where
     pushed : is_called_before rows at (seen ++ job ∷ []) name ≡ is_called_before rows at seen name || same_text job.system name
     pushed = any_push (λ other. same_text other.system name && may_go rows at other) seen job ∙ ap (λ b. is_called_before rows at seen name || (same_text job.system name && b)) may ∙ ap (λ b. is_called_before rows at seen name || b) (and-true (same_text job.system name))
-      where
-        and-true : (b : Bool) → b && true ≡ b
-        and-true true = refl
-        and-true false = refl
 
     by_same : (t : Bool) → is_within (cond t None old) grade ≡ (may_be_called rows at name grade && not (is_called_before rows at seen name || t))
     by_same true = sym (never (may_be_called rows at name grade) (is_called_before rows at seen name))
@@ -88,11 +70,7 @@ free_listed rows at seen job name grade old new h e may =
         never true true = refl
         never true false = refl
         never false b = refl
-    by_same false = h ∙ ap (λ b. may_be_called rows at name grade && not b) (or-false (is_called_before rows at seen name))
-      where
-        or-false : (b : Bool) → b ≡ b || false
-        or-false true = refl
-        or-false false = refl
+    by_same false = h ∙ ap (λ b. may_be_called rows at name grade && not b) (sym (or-false (is_called_before rows at seen name)))
 
 -- a job that isn't listed leaves the systems as they are
 pub free_passed : (rows : List SystemRow) (at : Moment) (seen : List JobHead) (job : JobHead) (name : List ℕ) (grade : ℕ) → (may_go rows at job && not (is_called_before rows at seen job.system)) ≡ false → is_called_before rows at (seen ++ job ∷ []) name ≡ is_called_before rows at seen name
@@ -101,11 +79,7 @@ free_passed rows at seen job name grade passed =
   where
     by_same : (t : Bool) → same_text job.system name ≡ t → is_called_before rows at seen name || (t && may_go rows at job) ≡ is_called_before rows at seen name
     by_same false e = or-false (is_called_before rows at seen name)
-      where
-        or-false : (b : Bool) → b || false ≡ b
-        or-false true = refl
-        or-false false = refl
-    by_same true e = absorbed (may_go rows at job) (is_called_before rows at seen name) (subst (λ (n : List ℕ). (may_go rows at job && not (is_called_before rows at seen n)) ≡ false) (same_is job.system name e) passed)
+    by_same true e = absorbed (may_go rows at job) (is_called_before rows at seen name) (subst (λ (n : List ℕ). (may_go rows at job && not (is_called_before rows at seen n)) ≡ false) (text_from job.system name e) passed)
       where
         absorbed : (may before : Bool) → (may && not before) ≡ false → before || may ≡ before
         absorbed true true h = refl
@@ -129,10 +103,6 @@ step_passed rows at jobs i d dues whole h passed e =
 
 -- ---- a walk one job at a time
 
-pub and-left : (a b : Bool) → a && b ≡ true → a ≡ true
-and-left true b e = refl
-and-left false b e = e
-
 walk_append : (rows : List SystemRow) (at : Moment) (seen jobs more : List JobHead) → walk_after rows at seen (jobs ++ more) ≡ walk_after rows at seen jobs ++ walk_after rows at (seen ++ jobs) more
 walk_append rows at seen [] more = ap (λ (s : List JobHead). walk_after rows at s more) (sym (append-nil seen))
 walk_append rows at seen (job ∷ jobs) more =
@@ -150,11 +120,7 @@ walk_append rows at seen (job ∷ jobs) more =
 
 -- the systems of the jobs that may go are those that are listed
 listed : (rows : List SystemRow) (at : Moment) (seen jobs : List JobHead) (name : List ℕ) → is_called_before rows at (seen ++ jobs) name ≡ is_called_before rows at seen name || is_listed (walk_after rows at seen jobs) name
-listed rows at seen [] name = ap (λ (s : List JobHead). is_called_before rows at s name) (append-nil seen) ∙ or-false (is_called_before rows at seen name)
-  where
-    or-false : (b : Bool) → b ≡ b || false
-    or-false true = refl
-    or-false false = refl
+listed rows at seen [] name = ap (λ (s : List JobHead). is_called_before rows at s name) (append-nil seen) ∙ sym (or-false (is_called_before rows at seen name))
 listed rows at seen (job ∷ jobs) name =
     ap (λ (s : List JobHead). is_called_before rows at s name) (sym (append_assoc seen (job ∷ []) jobs))
     ∙ listed rows at (seen ++ job ∷ []) jobs name
@@ -163,21 +129,13 @@ listed rows at seen (job ∷ jobs) name =
     rest : List Due
     rest = walk_after rows at (seen ++ job ∷ []) jobs
 
-    or-assoc : (a b c : Bool) → (a || b) || c ≡ a || (b || c)
-    or-assoc true b c = refl
-    or-assoc false b c = refl
-
-    and-true : (b : Bool) → b && true ≡ b
-    and-true true = refl
-    and-true false = refl
-
     by_next : (t : Bool) → is_next rows at seen job ≡ t → is_called_before rows at (seen ++ job ∷ []) name || is_listed rest name ≡ is_called_before rows at seen name || is_listed (cond t (due_of job ∷ rest) rest) name
     by_next true e =
-        let may : may_go rows at job ≡ true = and-left (may_go rows at job) _ e in
+        let may : may_go rows at job ≡ true = and_first (may_go rows at job) _ e in
         ap (λ b. b || is_listed rest name) (any_push (λ other. same_text other.system name && may_go rows at other) seen job)
         ∙ ap (λ b. (is_called_before rows at seen name || (same_text job.system name && b)) || is_listed rest name) may
         ∙ ap (λ b. (is_called_before rows at seen name || b) || is_listed rest name) (and-true (same_text job.system name))
-        ∙ or-assoc (is_called_before rows at seen name) (same_text job.system name) (is_listed rest name)
+        ∙ or_assoc (is_called_before rows at seen name) (same_text job.system name) (is_listed rest name)
     by_next false e = ap (λ b. b || is_listed rest name) (free_passed rows at seen job name job.grade e)
 
 pub walk_step : (rows : List SystemRow) (at : Moment) (jobs : List JobHead) (job : JobHead) → walk rows (jobs ++ job ∷ []) at ≡ with_next rows at (walk rows jobs at) job
@@ -192,16 +150,10 @@ walk_step rows at jobs job =
 
 -- ---- what the walk lists
 
-all_first : {X : Type 0} (R : X → X → Type 0) (x : X) (xs : List X) → AllPairs R (x ∷ xs) → All (R x) xs
-all_first R x xs h k d within = h 0 (suc k) d (omega arith) (omega arith)
-
-all_rest : {X : Type 0} (R : X → X → Type 0) (x : X) (xs : List X) → AllPairs R (x ∷ xs) → AllPairs R xs
-all_rest R x xs h i j d below within = h (suc i) (suc j) d (omega arith) (omega arith)
-
-not_itself : (a : JobHead) → goes_before a a ≡ false
+pub not_itself : (a : JobHead) → goes_before a a ≡ false
 not_itself a = grind (arith, nat_tests)
 
-not_back : (a b : JobHead) → goes_before a b ≡ true → goes_before b a ≡ false
+pub not_back : (a b : JobHead) → goes_before a b ≡ true → goes_before b a ≡ false
 not_back a b h = grind (arith, nat_tests)
 
 abbrev not_after : List SystemRow → Moment → JobHead → JobHead → Bool
@@ -222,14 +174,14 @@ none_later rows at job (other ∷ later) h =
 -- the jobs before one in the order are those that go before it
 is_last : (rows : List SystemRow) (at : Moment) (seen later : List JobHead) (job : JobHead) → AreInOrder (seen ++ job ∷ later) → list_all (not_after rows at job) (seen ++ job ∷ later) ≡ not (is_called_before rows at seen job.system)
 is_last rows at [] later job order =
-    rw (not_itself job, none_later rows at job later (all_first (λ a b. goes_before a b ≡ true) job later order)) (closed (same_text job.system job.system && may_go rows at job))
+    rw (not_itself job, none_later rows at job later (pairs_first (λ a b. goes_before a b ≡ true) job later order)) (closed (same_text job.system job.system && may_go rows at job))
   where
     closed : (b : Bool) → not (b && false) && true ≡ true
     closed true = refl
     closed false = refl
 is_last rows at (other ∷ seen) later job order =
-    let before : goes_before other job ≡ true = All-contains (λ o. goes_before other o ≡ true) (seen ++ job ∷ later) job (all_first (λ a b. goes_before a b ≡ true) other (seen ++ job ∷ later) order) (Contains-append_right seen (job ∷ later) job (first_of job later)) in
-    rw (before, is_last rows at seen later job (all_rest (λ a b. goes_before a b ≡ true) other (seen ++ job ∷ later) order)) (both (same_text other.system job.system && may_go rows at other) (is_called_before rows at seen job.system))
+    let before : goes_before other job ≡ true = All-contains (λ o. goes_before other o ≡ true) (seen ++ job ∷ later) job (pairs_first (λ a b. goes_before a b ≡ true) other (seen ++ job ∷ later) order) (Contains-append_right seen (job ∷ later) job (first_of job later)) in
+    rw (before, is_last rows at seen later job (pairs_rest (λ a b. goes_before a b ≡ true) other (seen ++ job ∷ later) order)) (both (same_text other.system job.system && may_go rows at other) (is_called_before rows at seen job.system))
   where
     both : (a b : Bool) → not (a && true) && not b ≡ not (a || b)
     both true b = refl
@@ -266,17 +218,12 @@ all_permutation p xs ys same = not_any p xs ∙ ap not (list_any-IsPermutation (
 pub due_same : (rows : List SystemRow) (at : Moment) (jobs ordered : List JobHead) (job : JobHead) → IsPermutation jobs ordered → is_due rows jobs at job ≡ is_due rows ordered at job
 due_same rows at jobs ordered job same = ap (λ b. may_go rows at job && b) (all_permutation (not_after rows at job) jobs ordered same)
 
-pub map_at : {X Y : Type 0} (f : X → Y) (xs : List X) (k : ℕ) (d : Y) (e : X) → k < length xs → get_or (map f xs) k d ≡ f (get_or xs k e)
-map_at f [] k d e h = absurd (omega arith)
-map_at f (x ∷ xs) zero d e h = refl
-map_at f (x ∷ xs) (suc k) d e h = map_at f xs k d e (omega arith)
-
 pairs_map : (jobs : List JobHead) → AreInOrder jobs → AllPairs ComesFirst (map due_of jobs)
 pairs_map [] order i j d below within = absurd (omega arith)
 pairs_map (job ∷ jobs) order i j d below within =
     let count : length (map due_of (job ∷ jobs)) ≡ length (job ∷ jobs) = length-map (job ∷ jobs) due_of in
-    let a = map_at due_of (job ∷ jobs) i d job (omega arith) in
-    let b = map_at due_of (job ∷ jobs) j d job (omega arith) in
+    let a = get_or-map due_of (job ∷ jobs) i job d (omega arith) in
+    let b = get_or-map due_of (job ∷ jobs) j job d (omega arith) in
     rw (a, b) (order i j job below (omega arith))
 
 pub walk_is_due : (rows : List SystemRow) (at : Moment) (jobs ordered : List JobHead) → IsPermutation jobs ordered → AreInOrder ordered → AreDue rows jobs at (walk rows ordered at)
@@ -284,7 +231,7 @@ walk_is_due rows at jobs ordered same order = subst (AreDue rows jobs at) (sym (
   sound = λ due h. let m = from_map due_of (filter p ordered) due h in let f = from_filter p ordered m.0 m.1 in
       record { job = m.0; there = Contains-permutation ordered jobs m.0 (IsPermutation-sym jobs ordered same) f.0; first = due_same rows at jobs ordered m.0 same ∙ f.1; is = sym m.2 };
   complete = λ due h. subst (Contains (map due_of (filter p ordered))) (sym h.is)
-      (mapped due_of (filter p ordered) h.job (kept p ordered h.job (Contains-permutation jobs ordered h.job same h.there) (sym (due_same rows at jobs ordered h.job same) ∙ h.first)));
+      (in_map due_of (filter p ordered) h.job (in_filter p ordered h.job (Contains-permutation jobs ordered h.job same h.there) (sym (due_same rows at jobs ordered h.job same) ∙ h.first)));
   in_order = pairs_map (filter p ordered) (AllPairs-filter (λ a b. goes_before a b ≡ true) p ordered order);
 })
   where
@@ -320,21 +267,18 @@ order_from_sort (item ∷ items) jobs sorted same distinct = in_pairs (map now (
     numbers : List ℕ
     numbers = map (λ (job : JobHead). job.number) (map now (item ∷ items))
 
-    flips : (x y : ℕ) → nat_eq x y ≡ nat_eq y x
-    flips x y = grind (arith, nat_tests)
-
     apart : IsDistinct nat_eq numbers
-    apart = IsDistinct-IsPermutation nat_eq flips _ _ (IsPermutation-map (λ (job : JobHead). job.number) jobs (map now (item ∷ items)) same) distinct
+    apart = IsDistinct-IsPermutation nat_eq nat_eq_equiv.symm _ _ (IsPermutation-map (λ (job : JobHead). job.number) jobs (map now (item ∷ items)) same) distinct
 
     near : (k : ℕ) (d : JobHead) → k + 1 < length (map now (item ∷ items)) → goes_before (get_or (map now (item ∷ items)) k d) (get_or (map now (item ∷ items)) (k + 1) d) ≡ true
     near k d h =
         let count : length (map now (item ∷ items)) ≡ length (item ∷ items) = length-map (item ∷ items) now in
         let all : length numbers ≡ length (map now (item ∷ items)) = length-map (map now (item ∷ items)) (λ (job : JobHead). job.number) in
-        let a = map_at now (item ∷ items) k d item (omega arith) in
-        let b = map_at now (item ∷ items) (k + 1) d item (omega arith) in
+        let a = get_or-map now (item ∷ items) k item d (omega arith) in
+        let b = get_or-map now (item ∷ items) (k + 1) item d (omega arith) in
         let differ = apart_from_distinct nat_eq numbers k (k + 1) 0 apart (omega arith) (omega arith) in
-        let na = map_at (λ (job : JobHead). job.number) (map now (item ∷ items)) k 0 d (omega arith) in
-        let nb = map_at (λ (job : JobHead). job.number) (map now (item ∷ items)) (k + 1) 0 d (omega arith) in
+        let na = get_or-map (λ (job : JobHead). job.number) (map now (item ∷ items)) k d 0 (omega arith) in
+        let nb = get_or-map (λ (job : JobHead). job.number) (map now (item ∷ items)) (k + 1) d 0 (omega arith) in
         let e : nat_eq (get_or (map now (item ∷ items)) k d).number (get_or (map now (item ∷ items)) (k + 1) d).number ≡ false = (λ i. nat_eq (sym na i) (sym nb i)) ∙ differ in
         let less = sorted k item (omega arith) (omega arith) in
         not_less (get_or (map now (item ∷ items)) k d) (get_or (map now (item ∷ items)) (k + 1) d) ((λ i. is_lt (ordering_then (nat_cmp (b i).grade (a i).grade) (nat_cmp (b i).number (a i).number))) ∙ less) e
@@ -342,11 +286,7 @@ order_from_sort (item ∷ items) jobs sorted same distinct = in_pairs (map now (
 -- ---- one more limit
 
 pub lowered : (old new : Option ℕ) (lowest now : ℕ) (same : Bool) (grade : ℕ) (found : Option ℕ) → new ≡ cond same (Some now) old → (same ≡ true → found ≡ old) → now ≡ with_limit found lowest → is_within new grade ≡ (is_within old grade || (same && leb grade lowest))
-lowered old new lowest now false grade found e f g = ap (λ o. is_within o grade) e ∙ or-false (is_within old grade)
-  where
-    or-false : (b : Bool) → b ≡ b || false
-    or-false true = refl
-    or-false false = refl
+lowered old new lowest now false grade found e f g = ap (λ o. is_within o grade) e ∙ sym (or-false (is_within old grade))
 lowered old new lowest now true grade found e f g =
     ap (λ o. is_within o grade) e ∙ ap (λ n. leb grade n) (g ∙ ap (λ o. with_limit o lowest) (f refl)) ∙ by_old old
   where

@@ -1,6 +1,8 @@
 -- What a command does to the jobs.
 use Rattle.std.proofs.Common.{◌≡◌, ℕ, Bool, true, false, not, cond, ◌&&◌, List, [], ◌∷◌, map, Contains, All, Option, Some, None, refl, ap, sym, subst, ◌∙◌, inl, inr, ◌⊎◌}
 use Rattle.std.proofs.lemmas.List.Elements.{Contains-append_left, Contains-append_right, Contains-push_cases, All-head, All-tail, All-weaker}
+use Rattle.std.proofs.lemmas.Bool.{not_from_false}
+use Rattle.uu_names.proofs.Basics.{first_of, in_filter, from_filter, in_map, from_map}
 use Rattle.uu_core.specs.declared.command.Command.{Command}
 use Rattle.uu_core.specs.declared.command.Command.TheVariants.{Define, Remove, Queue, QueueOnce, Kill, Regrade, Rejuvenate, Failed, Done, Release, Entry, Forget}
 use Rattle.uu_core.specs.declared.refusal.Refusal.{Refusal}
@@ -14,7 +16,6 @@ use Rattle.uu_core.specs.After.{after, after_verdict, accept, hand_in, with_job_
 use Rattle.uu_core.specs.Run.{state_after}
 use Rattle.uu_core.specs.Laws.{accepted_of, unless_refused, lets_go, IsSameJob, IsAmong, IsHandedIn, IsOfRun, handed_by, is_repeat}
 use Rattle.uu_core.proofs.KeyLemmas.{by_hand_in, first_where}
-use Rattle.uu_core.proofs.Members.{first_of, kept, from_filter, mapped, from_map}
 
 same_job : (job : Job) → IsSameJob job job
 same_job job = record { number = refl; system = refl; user = refl; kind = refl; bytes = refl }
@@ -29,11 +30,11 @@ stays_changed jobs number change job little h = by-test (is_job number job) refl
     f other = cond (is_job number other) (change other) other
 
     by-test : (t : Bool) → is_job number job ≡ t → IsAmong (change_job number change jobs) job
-    by-test true e = record { later = change job; there = ap_there (rw e) (mapped f jobs job h); same = little job }
+    by-test true e = record { later = change job; there = ap_there (rw e) (in_map f jobs job h); same = little job }
       where
         ap_there : f job ≡ change job → Contains (map f jobs) (f job) → Contains (map f jobs) (change job)
         ap_there q c = rw (← q) c
-    by-test false e = record { later = job; there = ap_there (rw e) (mapped f jobs job h); same = same_job job }
+    by-test false e = record { later = job; there = ap_there (rw e) (in_map f jobs job h); same = same_job job }
       where
         ap_there : f job ≡ job → Contains (map f jobs) (f job) → Contains (map f jobs) job
         ap_there q c = rw q at c
@@ -42,20 +43,17 @@ stays_added : (state : State) (key : Key) (new : NewJob) (job : Job) (comes : Ha
 stays_added state key new job (First number) h = itself _ job (Contains-append_left state.jobs (job_of state.next new ∷ []) job h)
 stays_added state key new job (Again number) h = itself state.jobs job h
 
-not-true : (t : Bool) → t ≡ false → not t ≡ true
-not-true t e = rw e
-
 pub stays_accept : (state : State) (command : Command) (job : Job) → Contains state.jobs job → lets_go command job ≡ false → IsAmong (accept state command).jobs job
 stays_accept state (Define def) job h e = itself state.jobs job h
 stays_accept state (Remove name) job h e = itself state.jobs job h
 stays_accept state (Queue new) job h e = itself _ job (Contains-append_left state.jobs (job_of state.next new ∷ []) job h)
 stays_accept state (QueueOnce key new) job h e = stays_added state key new job (hand_in state key) h
-stays_accept state (Kill number by) job h e = itself _ job (kept (λ other. not (is_job number other)) state.jobs job h (not-true (is_job number job) e))
+stays_accept state (Kill number by) job h e = itself _ job (in_filter (λ other. not (is_job number other)) state.jobs job h (not_from_false (is_job number job) e))
 stays_accept state (Regrade number grade by) job h e = stays_changed state.jobs number (λ other. record other { grade = grade }) job (λ j. record { number = refl; system = refl; user = refl; kind = refl; bytes = refl }) h
 stays_accept state (Rejuvenate number at by) job h e = stays_changed state.jobs number (λ other. record other { queued = at.second }) job (λ j. record { number = refl; system = refl; user = refl; kind = refl; bytes = refl }) h
 stays_accept state (Failed system at why) job h e = itself state.jobs job h
-stays_accept state (Done system at jobs) job h e = itself _ job (kept (λ j. not (is_among jobs j)) state.jobs job h (not-true (is_among jobs job) e))
-stays_accept state (Release system jobs) job h e = itself _ job (kept (λ j. not (is_released system jobs j)) state.jobs job h (not-true (is_released system jobs job) e))
+stays_accept state (Done system at jobs) job h e = itself _ job (in_filter (λ j. not (is_among jobs j)) state.jobs job h (not_from_false (is_among jobs job) e))
+stays_accept state (Release system jobs) job h e = itself _ job (in_filter (λ j. not (is_released system jobs j)) state.jobs job h (not_from_false (is_released system jobs job) e))
 stays_accept state (Entry bytes) job h e = itself state.jobs job h
 stays_accept state (Forget system below) job h e = itself state.jobs job h
 

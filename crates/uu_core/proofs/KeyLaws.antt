@@ -2,10 +2,11 @@
 use Rattle.std.proofs.Common.{◌≡◌, ℕ, Bool, true, false, cond, leb, ltb, ◌==◌, ◌&&◌, List, [], ◌∷◌, filter, find, All, Option, Some, None, refl, ap, sym, ◌∙◌, arith}
 use Rattle.std.specs.Option.{option_or}
 use Rattle.std.specs.Cmp.Lexicographic.{bytes_decides}
-use Rattle.std.proofs.lemmas.Bool.{eqb-true}
+use Rattle.std.proofs.lemmas.Bool.{eqb-true, eq-eqb}
 use Rattle.std.proofs.lemmas.Bool.Decides.{nat_tests}
 use Rattle.std.proofs.lemmas.List.Folds.{find-append}
 use Rattle.std.proofs.lemmas.List.Elements.{All-head, All-tail}
+use Rattle.uu_names.proofs.Basics.{find_there}
 use Rattle.uu_core.specs.declared.command.Command.{Command}
 use Rattle.uu_core.specs.declared.command.Command.TheVariants.{Define, Remove, Queue, QueueOnce, Kill, Regrade, Rejuvenate, Failed, Done, Release, Entry, Forget}
 use Rattle.uu_core.specs.declared.command.Reply.TheVariants.{Number}
@@ -22,13 +23,9 @@ use Rattle.uu_core.specs.After.{after, after_verdict, accept, with_job, with_tak
 use Rattle.uu_core.specs.Run.{state_after}
 use Rattle.uu_core.specs.Laws.{accepted_of, unless_refused, lets_forget}
 use Rattle.uu_core.proofs.KeyLemmas.{by_hand_in, first_why}
-use Rattle.uu_core.proofs.LinkLemmas.{find_keeps, find_drops, link_own, link_other, link_kept, taken_says, forgotten_says, name_is}
-use Rattle.uu_core.proofs.Members.{find_there}
+use Rattle.uu_core.proofs.LinkLemmas.{find_keeps, find_drops, link_own, link_other, link_kept, taken_says, forgotten_says, name_is, option_or-none}
 
 -- ---- rows by number
-
-is_it : (a b : ℕ) → a ≡ b → a == b ≡ true
-is_it a b e = grind (arith, nat_tests)
 
 -- the new row is found under its number
 pub found_new : (row : Taken) (link : Link) → taken_at (with_taken row link) row.number ≡ Some row
@@ -36,7 +33,7 @@ found_new row link =
     find-append (is_taken row.number) (filter (λ (other : Taken). ltb other.number row.number) link.taken) (row ∷ filter (λ (other : Taken). ltb row.number other.number) link.taken)
     ∙ ap (λ o. option_or o (cond (row.number == row.number) (Some row) (find (is_taken row.number) (filter (λ (other : Taken). ltb row.number other.number) link.taken))))
     (find_drops (is_taken row.number) (λ (other : Taken). ltb other.number row.number) link.taken (λ other e. not-below other.number row.number e))
-    ∙ ap (λ t. cond t (Some row) (find (is_taken row.number) (filter (λ (other : Taken). ltb row.number other.number) link.taken))) (is_it row.number row.number refl)
+    ∙ ap (λ t. cond t (Some row) (find (is_taken row.number) (filter (λ (other : Taken). ltb row.number other.number) link.taken))) (eq-eqb row.number row.number refl)
   where
     not-below : (a b : ℕ) → a == b ≡ true → ltb a b ≡ false
     not-below a b e = grind (arith, nat_tests)
@@ -54,10 +51,6 @@ found_old row link number differs =
     not_it : (t : Bool) → row.number == number ≡ t → t ≡ false
     not_it false e = refl
     not_it true e = absurd (differs (eqb-true row.number number e))
-
-    or-none : (o : Option Taken) → option_or o None ≡ o
-    or-none None = refl
-    or-none (Some r) = refl
 
     before : (a b c : ℕ) → ltb b c ≡ true → a == b ≡ true → ltb a c ≡ true
     before a b c l e = grind (arith, nat_tests)
@@ -78,7 +71,7 @@ found_old row link number differs =
         → option_or (find (is_taken number) (filter (λ (other : Taken). ltb other.number row.number) link.taken)) (find (is_taken number) (filter (λ (other : Taken). ltb row.number other.number) link.taken)) ≡ find (is_taken number) link.taken
     by-order true t e f =
         ap (λ o. option_or (find (is_taken number) (filter (λ (other : Taken). ltb other.number row.number) link.taken)) o) (find_drops (is_taken number) (λ (other : Taken). ltb row.number other.number) link.taken (λ other g. not_after other.number number row.number e g))
-        ∙ or-none (find (is_taken number) (filter (λ (other : Taken). ltb other.number row.number) link.taken))
+        ∙ option_or-none (find (is_taken number) (filter (λ (other : Taken). ltb other.number row.number) link.taken))
         ∙ find_keeps (is_taken number) (λ (other : Taken). ltb other.number row.number) link.taken (λ other g. before other.number number row.number e g)
     by-order false true e f =
         ap (λ o. option_or o (find (is_taken number) (filter (λ (other : Taken). ltb row.number other.number) link.taken))) (find_drops (is_taken number) (λ (other : Taken). ltb other.number row.number) link.taken (λ other g. not_before other.number number row.number f g))
@@ -116,9 +109,9 @@ key_kept state key job number told = by_verdict (verdict state (QueueOnce key jo
 -- a key that is kept is answered, and nothing changes
 pub key_answered : (state : State) (key : Key) (job : NewJob) (number : ℕ) → taken_of state key ≡ Some (record { number = key.number; mark = key.mark; job = number }) → after state (QueueOnce key job) ≡ (state, Number number)
 key_answered state key job number is =
-    let repeat : is_again (taken_of state key) key ≡ true = ap (λ o. is_again o key) is ∙ is_it key.mark key.mark refl in
+    let repeat : is_again (taken_of state key) key ≡ true = ap (λ o. is_again o key) is ∙ eq-eqb key.mark key.mark refl in
     let fine : verdict state (QueueOnce key job) ≡ None = ap (λ t. first_reason (cond t [] (fresh_reasons (are_known state key job) state.next (link_of state key.from).below (is_other (taken_of state key) key) key job))) repeat in
-    let comes : hand_in state key ≡ Again number = ap (λ o. hand_in_of o key state.next) is ∙ ap (λ t. cond t (Again number) (First state.next)) (is_it key.mark key.mark refl) in
+    let comes : hand_in state key ≡ Again number = ap (λ o. hand_in_of o key state.next) is ∙ ap (λ t. cond t (Again number) (First state.next)) (eq-eqb key.mark key.mark refl) in
     ap (λ v. after_verdict v state (QueueOnce key job)) fine ∙ ap (λ h. (with_job_once h key job state, Number (hand_in_number h))) comes
 
 -- a key stays until it is let be forgotten

@@ -8,7 +8,6 @@ pub mod KeyLaws
 pub mod KeyLemmas
 pub mod KeyOrigins
 pub mod LinkLemmas
-pub mod Members
 pub mod NextCallLaws
 pub mod NextCallLemmas
 pub mod OrderLemmas

@@ -1,5 +1,5 @@
 -- What a command makes of the link of one neighbour.
-use Rattle.std.proofs.Common.{◌≡◌, ℕ, suc, max, Bool, true, false, not, cond, leb, ltb, ◌==◌, ◌&&◌, List, [], ◌∷◌, ◌++◌, filter, find, length, Option, Some, None, unwrap_or, nat_cmp, refl, ap, sym, ◌∙◌, arith}
+use Rattle.std.proofs.Common.{◌≡◌, ℕ, suc, max, Bool, true, false, not, cond, leb, ltb, ◌==◌, List, [], ◌∷◌, ◌++◌, filter, find, length, Option, Some, None, unwrap_or, nat_cmp, refl, ap, sym, ◌∙◌, arith}
 use Rattle.std.specs.Option.{option_or}
 use Rattle.std.specs.declared.cmp.Ordering.{Ordering}
 use Rattle.std.specs.declared.cmp.Ordering.TheVariants.{Less, Equal, Greater}
@@ -10,6 +10,7 @@ use Rattle.std.proofs.lemmas.Bool.Decides.{nat_tests}
 use Rattle.std.proofs.lemmas.Cmp.{nat_list_cmp_total}
 use Rattle.std.proofs.lemmas.Map.Lookups.{exact_bytes}
 use Rattle.std.proofs.lemmas.List.Folds.{find-append}
+use Rattle.uu_names.proofs.Basics.{not_before_itself, and_first, and_second}
 use Rattle.uu_core.specs.declared.custody.Taken.{Taken}
 use Rattle.uu_core.specs.State.{State, Link, same_text, is_link, link_of, new_link, says_nothing}
 use Rattle.uu_core.specs.After.{is_before, put_by, put_link, with_taken, forgotten}
@@ -30,13 +31,11 @@ differ_turned a b e = by-test (same_text b a) refl
         let itself : same_text a b ≡ true = ap (same_text a) same ∙ same_itself a in
         absurd (cc)
 
-not_less_itself : (name : List ℕ) → slice_cmp nat_cmp name name ≡ Less → ⊥
-not_less_itself name e = apart (sym e ∙ nat_list_cmp_total.antisymm name name ∙ ap ordering_reverse e)
-  where
-    apart : Less ≡ Greater → ⊥
-    apart q = cc
-
 -- ---- what is found
+
+pub option_or-none : {X : Type 0} (o : Option X) → option_or o None ≡ o
+option_or-none None = refl
+option_or-none (Some x) = refl
 
 -- a filter that keeps all that the search finds
 pub find_keeps : {X : Type 0} (p q : X → Bool) (xs : List X) → ((x : X) → p x ≡ true → q x ≡ true) → find p (filter q xs) ≡ find p xs
@@ -86,7 +85,7 @@ module _ (item : Link) (links : List Link) where
           by-order (slice_cmp nat_cmp link.name item.name) refl same
         where
           by-order : (o : Ordering) → slice_cmp nat_cmp link.name item.name ≡ o → link.name ≡ item.name → is_lt o ≡ false
-          by-order Less q same = absurd (not_less_itself item.name (ap (λ n. slice_cmp nat_cmp n item.name) (sym same) ∙ q))
+          by-order Less q same = absurd (not_before_itself item.name (ap (λ n. slice_cmp nat_cmp n item.name) (sym same) ∙ q))
           by-order Equal q same = refl
           by-order Greater q same = refl
 
@@ -112,10 +111,6 @@ module _ (item : Link) (links : List Link) where
       before : (o : Ordering) → slice_cmp nat_cmp item.name other ≡ o → (link : Link) → is_link other link ≡ true → earlier link ≡ is_lt (ordering_reverse o)
       before o q link e = ap (λ n. is_lt (slice_cmp nat_cmp n item.name)) (named link e) ∙ ap is_lt (nat_list_cmp_total.antisymm other item.name) ∙ ap (λ r. is_lt (ordering_reverse r)) q
 
-      or-none : (o : Option Link) → option_or o None ≡ o
-      or-none None = refl
-      or-none (Some link) = refl
-
       by-order : (o : Ordering) → slice_cmp nat_cmp item.name other ≡ o → find (is_link other) (put_by name item links) ≡ find (is_link other) links
       by-order Less q =
           passed
@@ -124,7 +119,7 @@ module _ (item : Link) (links : List Link) where
       by-order Greater q =
           passed
           ∙ ap (λ o. option_or (find (is_link other) (filter earlier links)) o) (find_drops (is_link other) later links (after Greater q))
-          ∙ or-none (find (is_link other) (filter earlier links))
+          ∙ option_or-none (find (is_link other) (filter earlier links))
           ∙ find_keeps (is_link other) earlier links (before Greater q)
       by-order Equal q = absurd (let t : same_text item.name other ≡ true = (bytes_decides item.name other).1 (exact_bytes item.name other q) in cc)
 
@@ -156,10 +151,6 @@ link_kept state name gone differs = ap (λ o. unwrap_or o (new_link name)) (find
 pub taken_says : (taken : Taken) (link : Link) → says_nothing (with_taken taken link) ≡ true → ⊥
 taken_says taken link e = apart (filter (λ (other : Taken). ltb other.number taken.number) link.taken) (filter (λ (other : Taken). ltb taken.number other.number) link.taken) (and_second (link.below == 0) _ e)
   where
-    and_second : (a b : Bool) → a && b ≡ true → b ≡ true
-    and_second true b e = e
-    and_second false b e = absurd (cc)
-
     apart : (first rest : List Taken) → length (first ++ taken ∷ rest) == 0 ≡ true → ⊥
     apart [] rest e = let h : suc (length rest) ≡ 0 = eqb-true _ 0 e in omega arith
     apart (x ∷ first) rest e = let h : suc (length (first ++ taken ∷ rest)) ≡ 0 = eqb-true _ 0 e in omega arith
@@ -175,10 +166,6 @@ keeps_all (row ∷ rows) = ap (λ t. cond t (row ∷ filter (λ (r : Taken). leb
 pub forgotten_says : (below : ℕ) (link : Link) → says_nothing (forgotten below link) ≡ true → forgotten below link ≡ link
 forgotten_says below link e = by-zero below (zeros link.below below (and_first (max link.below below == 0) _ e)).1 (zeros link.below below (and_first (max link.below below == 0) _ e)).0
   where
-    and_first : (a b : Bool) → a && b ≡ true → a ≡ true
-    and_first true b e = refl
-    and_first false b e = absurd (cc)
-
     zeros : (a b : ℕ) → max a b == 0 ≡ true → (a ≡ 0) × (b ≡ 0)
     zeros a b e = let h : max a b ≡ 0 = eqb-true _ 0 e in (omega arith, omega arith)
 

@@ -1,21 +1,23 @@
 -- The first second at which a system can be called, and the calls in their order.
 use Rattle.std.proofs.Common.{◌≡◌, ◌≢◌, ℕ, zero, suc, ◌+◌, ◌*◌, ◌/◌, ◌%◌, ◌<◌, ◌≤◌, Bool, true, false, not, cond, leb, ltb, ◌&&◌, ◌||◌, ◌==◌, min, max, List, [], ◌∷◌, ◌++◌, length, map, filter, take, get_or, Option, Some, None, IfSome, All, AllPairs, Contains, IsPermutation, refl, ap, sym, ◌∙◌, subst, arith, ◌⊎◌, inl, inr}
-use Rattle.std.specs.List.{reduce, fold, list_any, IsDistinct}
+use Rattle.std.specs.List.{list_any, IsDistinct}
 use Rattle.std.specs.List.Sorted.{IsSortedBy, ties}
 use Rattle.std.specs.Int.{div_ceil}
 use Rattle.std.specs.Ordering.{nat_cmp, is_lt, ordering_then, ordering_reverse}
 use Rattle.std.specs.declared.cmp.Ordering.{Ordering}
 use Rattle.std.specs.declared.cmp.Ordering.TheVariants.{Less, Equal}
 use Rattle.std.specs.Cmp.Lexicographic.{slice_cmp, bytes_decides}
-use Rattle.std.proofs.lemmas.Bool.{eqb-true, ltb-true, leb-true}
+use Rattle.std.proofs.lemmas.Bool.{eqb-true, ltb-true, leb-true, both_ways, or_cases}
 use Rattle.std.proofs.lemmas.Bool.Decides.{nat_tests}
 use Rattle.std.specs.Cmp.{IsTotalOrder}
 use Rattle.std.proofs.lemmas.Cmp.{nat_cmp_total, nat_list_cmp_total, nat_list_eq_equiv, on_total, then_total, tied_itself}
-use Rattle.std.proofs.lemmas.List.{length-map, map-append, take_more}
+use Rattle.std.proofs.lemmas.List.{length-map, map-append, take_more, get_or-map}
 use Rattle.std.proofs.lemmas.List.Elements.{All-contains, All-map, All-weaker, Contains-get_or, filter_more}
 use Rattle.std.proofs.lemmas.List.Kept.{AllPairs-cons, AllPairs-filter}
 use Rattle.std.proofs.lemmas.List.Sorted.{sorted_far, ranks_by, IsPermutation-map, All-permutation, Contains-permutation}
 use Rattle.std.proofs.lemmas.Map.Keys.{IsDistinct-IsPermutation, IsDistinct-from_apart, apart_from_distinct}
+use Rattle.std.proofs.Math.Bool.{and-true, and-false}
+use Rattle.uu_names.proofs.Basics.{in_filter, in_map, and_first, and_second, any_from_reduce_max}
 use Rattle.uu_times.specs.Moment.{last_second}
 use Rattle.uu_times.specs.Ranges.{holds}
 use Rattle.uu_times.specs.declared.system.Line.{Line}
@@ -30,29 +32,8 @@ use Rattle.uu_core.specs.Queues.{jobs_for}
 use Rattle.uu_core.specs.Waiting.{lines_at, limit_at, is_held}
 use Rattle.uu_core.specs.Due.{is_within}
 use Rattle.uu_core.specs.NextCalls.{limit_in, week_at, looked_ahead, free_from, is_looked_at, is_callable, IsLeast, IsFirstOpen, is_sooner_at, is_sooner, is_polled_sooner, turn_at, turn_of, poll_turn_at, poll_turn, IsAhead, IsPollAhead, IsNextCall, IsNextPoll, AreNextCalls, AreNextPolls}
-use Rattle.uu_core.proofs.DueLemmas.{map_at}
-use Rattle.uu_core.proofs.Members.{kept, mapped}
 
 -- ---- lines that are for a grade
-
-within_fold : (grade most : ℕ) (grades : List ℕ) → leb grade (fold max most grades) ≡ leb grade most || list_any (leb grade) grades
-within_fold grade most [] = or-false (leb grade most)
-  where
-    or-false : (b : Bool) → b ≡ b || false
-    or-false true = refl
-    or-false false = refl
-within_fold grade most (other ∷ grades) = within_fold grade (max most other) grades ∙ ap (λ b. b || list_any (leb grade) grades) reached ∙ or-assoc (leb grade most) (leb grade other) (list_any (leb grade) grades)
-  where
-    reached : leb grade (max most other) ≡ leb grade most || leb grade other
-    reached = grind (arith, nat_tests)
-
-    or-assoc : (a b c : Bool) → (a || b) || c ≡ a || (b || c)
-    or-assoc true b c = refl
-    or-assoc false b c = refl
-
-within_most : (grade : ℕ) (grades : List ℕ) → is_within (reduce max grades) grade ≡ list_any (leb grade) grades
-within_most grade [] = refl
-within_most grade (most ∷ grades) = within_fold grade most grades
 
 any_open : (lines : List Line) (week grade : ℕ) → list_any (leb grade) (map (λ (line : Line). line.grade) (lines_at lines week)) ≡ list_any (λ line. leb grade line.grade && holds line.windows week) lines
 any_open [] week grade = refl
@@ -62,37 +43,14 @@ any_open (line ∷ lines) week grade = by-test (holds line.windows week) ∙ ap 
     rest = list_any (leb grade) (map (λ (l : Line). l.grade) (lines_at lines week))
 
     by-test : (t : Bool) → list_any (leb grade) (map (λ (l : Line). l.grade) (cond t (line ∷ lines_at lines week) (lines_at lines week))) ≡ (leb grade line.grade && t) || rest
-    by-test true = ap (λ b. b || rest) (and-true (leb grade line.grade))
-      where
-        and-true : (b : Bool) → b ≡ b && true
-        and-true true = refl
-        and-true false = refl
-    by-test false = ap (λ b. b || rest) (and-false (leb grade line.grade))
-      where
-        and-false : (b : Bool) → false ≡ b && false
-        and-false true = refl
-        and-false false = refl
+    by-test true = ap (λ b. b || rest) (sym (and-true (leb grade line.grade)))
+    by-test false = ap (λ b. b || rest) (sym (and-false (leb grade line.grade)))
 
 -- the limit reaches a grade if an open line is for it
 pub reached_by_one : (lines : List Line) (week grade : ℕ) → list_any (λ line. leb grade line.grade && holds line.windows week) lines ≡ is_within (limit_at lines week) grade
-reached_by_one lines week grade = sym (within_most grade (map (λ (line : Line). line.grade) (lines_at lines week)) ∙ any_open lines week grade)
+reached_by_one lines week grade = sym (any_from_reduce_max grade (λ o. is_within o grade) refl (λ m. refl) (map (λ (line : Line). line.grade) (lines_at lines week)) ∙ any_open lines week grade)
 
 -- ---- the first second
-
-pub false-true : {b : Bool} → b ≡ false → b ≡ true → ⊥
-false-true e f = cc
-
-pub left_true : (a b : Bool) → a && b ≡ true → a ≡ true
-left_true true b e = refl
-left_true false b e = e
-
-pub right_true : (a b : Bool) → a && b ≡ true → b ≡ true
-right_true true b e = e
-right_true false b e = absurd (cc)
-
-or_cases : (a b : Bool) → a || b ≡ true → (a ≡ true) ⊎ (b ≡ true)
-or_cases true b e = inl refl
-or_cases false b e = inr e
 
 module _ (zone : Zone) (row : SystemRow) (grade now free last from : ℕ) where
   abbrev test : ℕ → Bool
@@ -113,12 +71,12 @@ module _ (zone : Zone) (row : SystemRow) (grade now free last from : ℕ) where
       → from ≡ first_looked_at (is_held row.call now) → (other : ℕ) → is_callable zone row grade now other ≡ true
       → (k : ℕ) × (other ≡ 60 * k) × (from ≤ k) × (k < last / 60 + 1) × (test k ≡ true)
   later_minute not_now free_is last_is from_is other callable =
-      let looked = left_true (is_looked_at row.call now other) (is_within (limit_in zone row other) grade) callable in
-      let may = right_true (is_looked_at row.call now other) (is_within (limit_in zone row other) grade) callable in
-      let near = left_true ((other == now || (ltb now other && other % 60 == 0)) && leb other (free_from row.call now + looked_ahead)) (leb other last_second) looked in
-      let past = right_true ((other == now || (ltb now other && other % 60 == 0)) && leb other (free_from row.call now + looked_ahead)) (leb other last_second) looked in
-      let place = left_true (other == now || (ltb now other && other % 60 == 0)) (leb other (free_from row.call now + looked_ahead)) near in
-      let ahead = right_true (other == now || (ltb now other && other % 60 == 0)) (leb other (free_from row.call now + looked_ahead)) near in
+      let looked = and_first (is_looked_at row.call now other) (is_within (limit_in zone row other) grade) callable in
+      let may = and_second (is_looked_at row.call now other) (is_within (limit_in zone row other) grade) callable in
+      let near = and_first ((other == now || (ltb now other && other % 60 == 0)) && leb other (free_from row.call now + looked_ahead)) (leb other last_second) looked in
+      let past = and_second ((other == now || (ltb now other && other % 60 == 0)) && leb other (free_from row.call now + looked_ahead)) (leb other last_second) looked in
+      let place = and_first (other == now || (ltb now other && other % 60 == 0)) (leb other (free_from row.call now + looked_ahead)) near in
+      let ahead = and_second (other == now || (ltb now other && other % 60 == 0)) (leb other (free_from row.call now + looked_ahead)) near in
       by-place may (leb-true other (free_from row.call now + looked_ahead) ahead) (leb-true other last_second past) (or_cases (other == now) (ltb now other && other % 60 == 0) place)
     where
       by_held : (held : Bool) → is_held row.call now ≡ held → from ≡ first_looked_at held → now < other → other ≡ 60 * (other / 60) → other / 60 < from → is_held row.call other ≡ true
@@ -129,10 +87,10 @@ module _ (zone : Zone) (row : SystemRow) (grade now free last from : ℕ) where
 
       by-place : is_within (limit_in zone row other) grade ≡ true → other ≤ free_from row.call now + looked_ahead → other ≤ last_second
           → (other == now ≡ true) ⊎ (ltb now other && other % 60 == 0 ≡ true) → (k : ℕ) × (other ≡ 60 * k) × (from ≤ k) × (k < last / 60 + 1) × (test k ≡ true)
-      by-place may ahead past (inl same) = absurd (false-true not_now (ap (λ s. is_within (limit_in zone row s) grade) (sym (eqb-true other now same)) ∙ may))
+      by-place may ahead past (inl same) = absurd (both_ways _ not_now (ap (λ s. is_within (limit_in zone row s) grade) (sym (eqb-true other now same)) ∙ may))
       by-place may ahead past (inr later) =
-          let after : now < other = ltb-true now other (left_true (ltb now other) (other % 60 == 0) later) in
-          let whole : other % 60 ≡ 0 = eqb-true (other % 60) 0 (right_true (ltb now other) (other % 60 == 0) later) in
+          let after : now < other = ltb-true now other (and_first (ltb now other) (other % 60 == 0) later) in
+          let whole : other % 60 ≡ 0 = eqb-true (other % 60) 0 (and_second (ltb now other) (other % 60 == 0) later) in
           let is : other ≡ 60 * (other / 60) = omega arith in
           by_from after is (leb from (other / 60)) refl
         where
@@ -141,7 +99,7 @@ module _ (zone : Zone) (row : SystemRow) (grade now free last from : ℕ) where
           by_from after is false e =
               let before : other / 60 < from = grind (arith, nat_tests) in
               let held = by_held (is_held row.call now) refl from_is after is before in
-              absurd (false-true (ap (λ h. is_within (cond h None (limit_at row.def.lines (week_at zone other))) grade) held) may)
+              absurd (both_ways _ (ap (λ h. is_within (cond h None (limit_at row.def.lines (week_at zone other))) grade) held) may)
 
   pub first_second : is_within (limit_in zone row now) grade ≡ false → free ≡ min (free_from row.call now) last_second → last ≡ min (free + looked_ahead) last_second
       → from ≡ first_looked_at (is_held row.call now) → (found : Option ℕ) → IsFirstOpen test from (last / 60 + 1) found → IsLeast (is_callable zone row grade now) found
@@ -151,7 +109,7 @@ module _ (zone : Zone) (row : SystemRow) (grade now free last from : ℕ) where
       by-test other false e = refl
       by-test other true e =
           let later = later_minute not_now free_is last_is from_is other e in
-          absurd (false-true (none later.0 later.2 later.3) later.4)
+          absurd (both_ways _ (none later.0 later.2 later.3) later.4)
   first_second not_now free_is last_is from_is (Some second) (minute, is, reached, within, may, none) = (here, least)
     where
       may_at : is_within (limit_in zone row second) grade ≡ true
@@ -176,7 +134,7 @@ module _ (zone : Zone) (row : SystemRow) (grade now free last from : ℕ) where
         where
           by-order : (later : (k : ℕ) × (other ≡ 60 * k) × (from ≤ k) × (k < last / 60 + 1) × (test k ≡ true)) → (t : Bool) → leb minute later.0 ≡ t → second ≤ other
           by-order later true e = let order = leb-true minute later.0 e in omega (arith, later.1)
-          by-order later false e = absurd (false-true (none later.0 later.2 (grind (arith, nat_tests))) later.4)
+          by-order later false e = absurd (both_ways _ (none later.0 later.2 (grind (arith, nat_tests))) later.4)
 
 -- the end of a wait that was cut off at a bound past the last moment
 pub capped : (free end most : ℕ) → free ≡ min end most → last_second ≤ most → min free last_second ≡ min end last_second
@@ -251,7 +209,7 @@ not_sooner_at : (s t : Option ℕ) (g h n m : ℕ) (by_name : Bool) → is_lt (c
     → (s ≡ None → t ≡ None → by_name ≡ false) → is_sooner_at t s (ltb h g || (h == g && ltb m n)) by_name ≡ false
 not_sooner_at (Some s) (Some t) g h n m by_name e ahead last = grind (arith, nat_tests)
 not_sooner_at (Some s) None g h n m by_name e ahead last = refl
-not_sooner_at None (Some t) g h n m by_name e ahead last = absurd (false-true e (grind (arith, nat_tests)))
+not_sooner_at None (Some t) g h n m by_name e ahead last = absurd (both_ways _ e (grind (arith, nat_tests)))
 not_sooner_at None None g h n m by_name e ahead last = last refl refl
 
 never_ties : (s t : Option ℕ) (g h n m : ℕ) → s ≡ None → t ≡ None
@@ -265,7 +223,7 @@ pairs-kept R p (x ∷ xs) pairs i zero d below within at_i at_j = absurd (omega 
 pairs-kept {X} R p (x ∷ xs) pairs zero (suc j) d below within at_i at_j =
     let whole : AllPairs R (x ∷ filter p xs) = subst (λ (t : Bool). AllPairs R (cond t (x ∷ filter p xs) (filter p xs))) at_i pairs in
     let first : All (R x) (filter p xs) = λ k e h. whole 0 (suc k) e (omega arith) (omega arith) in
-    All-contains (R x) (filter p xs) (get_or xs j d) first (kept p xs (get_or xs j d) (Contains-get_or xs j d (omega arith)) at_j)
+    All-contains (R x) (filter p xs) (get_or xs j d) first (in_filter p xs (get_or xs j d) (Contains-get_or xs j d (omega arith)) at_j)
 pairs-kept {X} R p (x ∷ xs) pairs (suc i) (suc j) d below within at_i at_j =
     pairs-kept R p xs (by-test (p x) pairs) i j d (omega arith) (omega arith) at_i at_j
   where
@@ -316,13 +274,17 @@ pairs_from_map : {X Y : Type 0} (f : X → Y) (R : Y → Y → Type 0) (xs : Lis
 pairs_from_map f R xs h i j d below within =
     let count : length (map f xs) ≡ length xs = length-map xs f in
     let pair = h i j (f d) below (omega arith) in
-    rw (map_at f xs i (f d) d (omega arith), map_at f xs j (f d) d within) at pair
+    rw (get_or-map f xs i d (f d) (omega arith), get_or-map f xs j d (f d) within) at pair
 
 abbrev called : NextCall → List ℕ
 called call = call.system
 
 abbrev row_name : SystemRow → List ℕ
 row_name row = row.def.name
+
+in_time : (now : ℕ) (second : Option ℕ) → IfSome second (λ s. (now ≤ s) × (s ≤ last_second)) → IfSome second (λ s. s ≤ last_second)
+in_time now None h = tt
+in_time now (Some s) h = h.1
 
 -- the calls of the systems that have jobs, put in order
 pub calls_are : (zone : Zone) (rows : List SystemRow) (jobs : List JobHead) (now : ℕ) (has : SystemRow → Bool) (before after : List NextCall) → AreByName row_name rows
@@ -332,12 +294,12 @@ pub calls_are : (zone : Zone) (rows : List SystemRow) (jobs : List JobHead) (now
 calls_are zone rows jobs now has before after by_name names has_jobs sound same sorted stable ahead = record {
   sound = All-permutation (IsNextCall zone rows jobs now) before after same sound;
   each = λ row there some. Contains-permutation (map called before) (map called after) row.def.name (IsPermutation-map called before after same)
-      (subst (λ (l : List (List ℕ)). Contains l row.def.name) (sym names) (mapped row_name (filter has rows) row (kept has rows row there (has_jobs row some))));
+      (subst (λ (l : List (List ℕ)). Contains l row.def.name) (sym names) (in_map row_name (filter has rows) row (in_filter has rows row there (has_jobs row some))));
   once = λ i j d below within.
       let count : length (map called after) ≡ length after = length-map after called in
       let apart = apart_from_distinct same_text (map called after) i j d.system distinct below (omega arith) in
-      rw (map_at called after i d.system d (omega arith), map_at called after j d.system d within) at apart;
-  in_order = calls_in_order before after ordered sorted stable (All-weaker (IsAhead now) (λ (call : NextCall). IfSome call.second (λ second. second ≤ last_second)) (λ call h. in_time call.second h) after ahead);
+      rw (get_or-map called after i d d.system (omega arith), get_or-map called after j d d.system within) at apart;
+  in_order = calls_in_order before after ordered sorted stable (All-weaker (IsAhead now) (λ (call : NextCall). IfSome call.second (λ second. second ≤ last_second)) (λ call h. in_time now call.second h) after ahead);
 }
   where
     named : AllPairs ComesBefore (map called before)
@@ -349,10 +311,6 @@ calls_are zone rows jobs now has before after by_name names has_jobs sound same 
     distinct : IsDistinct same_text (map called after)
     distinct = IsDistinct-IsPermutation same_text nat_list_eq_equiv.symm (map called before) (map called after) (IsPermutation-map called before after same)
         (IsDistinct-from_apart same_text (map called before) (λ i j d below within. not_same (get_or (map called before) i d) (get_or (map called before) j d) (named i j d below within)))
-
-    in_time : (second : Option ℕ) → IfSome second (λ s. (now ≤ s) × (s ≤ last_second)) → IfSome second (λ s. s ≤ last_second)
-    in_time None h = tt
-    in_time (Some s) h = h.1
 
 -- ---- one more system
 
@@ -372,15 +330,15 @@ names_more rows i row has names t within is same passes =
 pub ahead_of : (zone : Zone) (row : SystemRow) (grade now : ℕ) (second : Option ℕ) → IsLeast (is_callable zone row grade now) second → IfSome second (λ s. (now ≤ s) × (s ≤ last_second))
 ahead_of zone row grade now None least = tt
 ahead_of zone row grade now (Some second) (callable, least) =
-    let looked = left_true (is_looked_at row.call now second) (is_within (limit_in zone row second) grade) callable in
-    let near = left_true ((second == now || (ltb now second && second % 60 == 0)) && leb second (free_from row.call now + looked_ahead)) (leb second last_second) looked in
-    let past = right_true ((second == now || (ltb now second && second % 60 == 0)) && leb second (free_from row.call now + looked_ahead)) (leb second last_second) looked in
-    let place = left_true (second == now || (ltb now second && second % 60 == 0)) (leb second (free_from row.call now + looked_ahead)) near in
+    let looked = and_first (is_looked_at row.call now second) (is_within (limit_in zone row second) grade) callable in
+    let near = and_first ((second == now || (ltb now second && second % 60 == 0)) && leb second (free_from row.call now + looked_ahead)) (leb second last_second) looked in
+    let past = and_second ((second == now || (ltb now second && second % 60 == 0)) && leb second (free_from row.call now + looked_ahead)) (leb second last_second) looked in
+    let place = and_first (second == now || (ltb now second && second % 60 == 0)) (leb second (free_from row.call now + looked_ahead)) near in
     (by-place (or_cases (second == now) (ltb now second && second % 60 == 0) place), leb-true second last_second past)
   where
     by-place : (second == now ≡ true) ⊎ (ltb now second && second % 60 == 0 ≡ true) → now ≤ second
     by-place (inl same) = let e = eqb-true second now same in omega (arith, e)
-    by-place (inr later) = let l = ltb-true now second (left_true (ltb now second) (second % 60 == 0) later) in omega (arith, l)
+    by-place (inr later) = let l = ltb-true now second (and_first (ltb now second) (second % 60 == 0) later) in omega (arith, l)
 
 -- ---- polls
 
@@ -404,7 +362,7 @@ not_polled_sooner (Some s) (Some t) by_name e ahead last = by-test (t == s) refl
         grind (arith, nat_tests)
     by-test false q = grind (arith, nat_tests)
 not_polled_sooner (Some s) None by_name e ahead last = refl
-not_polled_sooner None (Some t) by_name e ahead last = absurd (false-true e (grind (arith, nat_tests)))
+not_polled_sooner None (Some t) by_name e ahead last = absurd (both_ways _ e (grind (arith, nat_tests)))
 not_polled_sooner None None by_name e ahead last = last refl
 
 same_ties : (s t : ℕ) → s ≡ t → (not (is_lt (nat_cmp s t)) && not (is_lt (nat_cmp t s))) ≡ true
@@ -432,12 +390,12 @@ pub polls_are : (zone : Zone) (rows : List SystemRow) (now : ℕ) (before after 
 polls_are zone rows now before after by_name names sound same sorted stable ahead = record {
   sound = All-permutation (IsNextPoll zone rows now) before after same sound;
   each = λ row there. Contains-permutation (map polled before) (map polled after) row.def.name (IsPermutation-map polled before after same)
-      (subst (λ (l : List (List ℕ)). Contains l row.def.name) (sym names) (mapped row_name rows row there));
+      (subst (λ (l : List (List ℕ)). Contains l row.def.name) (sym names) (in_map row_name rows row there));
   once = λ i j d below within.
       let count : length (map polled after) ≡ length after = length-map after polled in
       let apart = apart_from_distinct same_text (map polled after) i j d.system distinct below (omega arith) in
-      rw (map_at polled after i d.system d (omega arith), map_at polled after j d.system d within) at apart;
-  in_order = polls_in_order before after ordered sorted stable (All-weaker (IsPollAhead now) (λ (poll : NextPoll). IfSome poll.second (λ second. second ≤ last_second)) (λ poll h. in_time poll.second h) after ahead);
+      rw (get_or-map polled after i d d.system (omega arith), get_or-map polled after j d d.system within) at apart;
+  in_order = polls_in_order before after ordered sorted stable (All-weaker (IsPollAhead now) (λ (poll : NextPoll). IfSome poll.second (λ second. second ≤ last_second)) (λ poll h. in_time now poll.second h) after ahead);
 }
   where
     named : AllPairs ComesBefore (map polled before)
@@ -449,10 +407,6 @@ polls_are zone rows now before after by_name names sound same sorted stable ahea
     distinct : IsDistinct same_text (map polled after)
     distinct = IsDistinct-IsPermutation same_text nat_list_eq_equiv.symm (map polled before) (map polled after) (IsPermutation-map polled before after same)
         (IsDistinct-from_apart same_text (map polled before) (λ i j d below within. not_same (get_or (map polled before) i d) (get_or (map polled before) j d) (named i j d below within)))
-
-    in_time : (second : Option ℕ) → IfSome second (λ s. (now ≤ s) × (s ≤ last_second)) → IfSome second (λ s. s ≤ last_second)
-    in_time None h = tt
-    in_time (Some s) h = h.1
 
 -- the names of the systems up to one more
 pub names_on : (rows : List SystemRow) (i : ℕ) (row : SystemRow) (names : List (List ℕ)) (name : List ℕ) → i < length rows → row ≡ get_or rows i row

@@ -1,15 +1,15 @@
 -- The sums over all systems are those over all jobs.
-use Rattle.std.proofs.Common.{◌≡◌, ℕ, suc, ◌+◌, ◌<◌, Bool, true, false, cond, List, [], ◌∷◌, length, map, get_or, sum_by, All, AllPairs, Contains, refl, ap, sym, ◌∙◌, subst, arith, ◌⊎◌, inl, inr}
+use Rattle.std.proofs.Common.{◌≡◌, ℕ, ◌+◌, ◌<◌, Bool, true, false, cond, List, [], ◌∷◌, length, map, get_or, sum_by, All, AllPairs, Contains, refl, ap, sym, ◌∙◌, subst, arith, ◌⊎◌, inl, inr}
 use Rattle.std.specs.Cmp.Lexicographic.{bytes_decides}
-use Rattle.std.proofs.lemmas.List.{length-map}
+use Rattle.std.proofs.lemmas.List.{length-map, get_or-map}
 use Rattle.std.proofs.lemmas.List.Elements.{All-head, All-tail}
 use Rattle.std.proofs.lemmas.List.Sums.{sum_by-cons}
+use Rattle.std.proofs.lemmas.Bool.{both_ways}
+use Rattle.uu_names.proofs.Basics.{first_of, later_of, first_or_later, none_in, pairs_first, pairs_rest}
 use Rattle.uu_core.specs.declared.job.JobHead.{JobHead}
 use Rattle.uu_core.specs.declared.queue.Queue.{Queue}
 use Rattle.uu_core.specs.State.{same_text, ComesBefore}
 use Rattle.uu_core.specs.Queues.{jobs_for, AreQueues}
-use Rattle.uu_core.proofs.DueLemmas.{map_at}
-use Rattle.uu_core.proofs.Members.{first_of, later_of, first_or_later, none_in}
 use Rattle.uu_core.proofs.NextCallLemmas.{not_same}
 
 sum_same : {X : Type 0} (f g : X → ℕ) (xs : List X) → All (λ x. f x ≡ g x) xs → sum_by f xs ≡ sum_by g xs
@@ -30,12 +30,6 @@ sum_both f g [] = refl
 sum_both f g (x ∷ xs) =
     let rest = sum_both f g xs in
     sum_by-cons (λ y. f y + g y) x xs ∙ (let here = sum_by-cons f x xs in let there = sum_by-cons g x xs in omega (arith, rest, here, there))
-
-pairs_first : {X : Type 0} (R : X → X → Type 0) (x : X) (xs : List X) → AllPairs R (x ∷ xs) → All (R x) xs
-pairs_first R x xs h k d within = h 0 (suc k) d (omega arith) (omega arith)
-
-pairs_rest : {X : Type 0} (R : X → X → Type 0) (x : X) (xs : List X) → AllPairs R (x ∷ xs) → AllPairs R xs
-pairs_rest R x xs h i j d below within = h (suc i) (suc j) d (omega arith) (omega arith)
 
 -- of names that differ, one is that of a text
 abbrev counted : List ℕ → ℕ → List ℕ → ℕ
@@ -66,12 +60,9 @@ one_counted text value (name ∷ names) apart there =
         apart_from : (other : List ℕ) → Contains names other → same_text name other ≡ false
         apart_from other (k, within, is) = subst (λ (n : List ℕ). same_text name n ≡ false) is (pairs_first (λ a b. same_text a b ≡ false) name names apart k other within)
 
-        true_false : {t : Bool} → t ≡ true → t ≡ false → ⊥
-        true_false q r = cc
-
         by-test : (t : Bool) → same_text text name ≡ t → t ≡ false
         by-test false e = refl
-        by-test true e = absurd (true_false ((bytes_decides name text).1 (sym ((bytes_decides text name).0 e))) (apart_from text later))
+        by-test true e = absurd (both_ways _ (apart_from text later) ((bytes_decides name text).1 (sym ((bytes_decides text name).0 e))))
 
 -- sums by different names that include each job's system are the sums of all jobs
 by_names : (f : JobHead → ℕ) (names : List (List ℕ)) → AllPairs (λ a b. same_text a b ≡ false) names → (jobs : List JobHead)
@@ -111,8 +102,8 @@ module _ (jobs : List JobHead) (queues : List Queue) (are : AreQueues jobs queue
           of_queues [] h i j d below inside = absurd (omega arith)
           of_queues (q ∷ qs) h i j d below inside =
               let pair = h i j q below inside in
-              subst (λ (a : List ℕ). ComesBefore a (get_or (map (λ (queue : Queue). queue.system) (q ∷ qs)) j d)) (sym (map_at (λ (queue : Queue). queue.system) (q ∷ qs) i d q (omega arith)))
-              (subst (λ (b : List ℕ). ComesBefore (get_or (q ∷ qs) i q).system b) (sym (map_at (λ (queue : Queue). queue.system) (q ∷ qs) j d q inside)) pair)
+              subst (λ (a : List ℕ). ComesBefore a (get_or (map (λ (queue : Queue). queue.system) (q ∷ qs)) j d)) (sym (get_or-map (λ (queue : Queue). queue.system) (q ∷ qs) i q d (omega arith)))
+              (subst (λ (b : List ℕ). ComesBefore (get_or (q ∷ qs) i q).system b) (sym (get_or-map (λ (queue : Queue). queue.system) (q ∷ qs) j q d inside)) pair)
 
   summed : (f : JobHead → ℕ) (g : Queue → ℕ) → All (λ queue. g queue ≡ sum_by f (jobs_for queue.system jobs)) queues → sum_by g queues ≡ sum_by f jobs
   summed f g each =

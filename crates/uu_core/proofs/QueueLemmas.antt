@@ -8,20 +8,20 @@ use Rattle.std.specs.List.Sorted.{IsStrictlySortedBy}
 use Rattle.std.specs.declared.cmp.Ordering.TheVariants.{Less}
 use Rattle.std.proofs.lemmas.Cmp.{nat_list_cmp_total}
 use Rattle.std.proofs.lemmas.Bool.Decides.{nat_tests}
-use Rattle.std.proofs.lemmas.List.{map-append, length-map}
+use Rattle.std.proofs.lemmas.List.{map-append, length-map, get_or-map}
 use Rattle.std.proofs.lemmas.Map.Keys.{Less-from_sorted}
 use Rattle.std.proofs.lemmas.Map.Lookups.{exact_bytes}
 use Rattle.std.proofs.lemmas.Map.Views.{All-found, btree_map_contains_key_iff}
 use Rattle.std.proofs.lemmas.List.Sums.{fold_push, sum_by_push, length-filter, count_by-le-length}
 use Rattle.std.proofs.lemmas.List.Elements.{All-push, All-weaker, Contains-push, Contains-append_left, filter_more}
+use Rattle.uu_names.proofs.Basics.{in_filter, none_in}
 use Rattle.uu_core.specs.declared.job.JobHead.{JobHead}
 use Rattle.uu_core.specs.declared.queue.Sums.{Sums}
 use Rattle.uu_core.specs.declared.queue.Queue.{Queue}
 use Rattle.uu_core.specs.State.{same_text}
 use Rattle.uu_core.specs.Due.{goes_before}
 use Rattle.uu_core.specs.Queues.{jobs_for, IsFirstJob, AreSums, AreSumsOf, AreQueues}
-use Rattle.uu_core.proofs.DueLemmas.{map_at}
-use Rattle.uu_core.proofs.Members.{kept, none_in}
+use Rattle.uu_core.proofs.DueLemmas.{not_itself}
 
 -- ---- one job, and one more
 
@@ -31,9 +31,6 @@ reduce_push f (y ∷ ys) x least e = ap Some (ap (λ m. f m x) same ∙ sym (fol
   where
     same : least ≡ fold f y ys
     same = cc
-
-not_itself : (a : JobHead) → goes_before a a ≡ false
-not_itself a = grind (arith, nat_tests)
 
 -- a job that goes before the first one goes before all that this one went before
 goes_first : (other first job : JobHead) → goes_before job first ≡ true → goes_before other first ≡ false → goes_before other job ≡ false
@@ -134,14 +131,14 @@ names_of (queue ∷ queues) = ap (λ names. queue.system ∷ names) (names_of qu
 
 -- a job is among those of its system
 pub among_its_own : (jobs : List JobHead) (job : JobHead) → Contains jobs job → Contains (jobs_for job.system jobs) job
-among_its_own jobs job h = kept (λ (other : JobHead). same_text other.system job.system) jobs job h ((bytes_decides job.system job.system).1 refl)
+among_its_own jobs job h = in_filter (λ (other : JobHead). same_text other.system job.system) jobs job h ((bytes_decides job.system job.system).1 refl)
 
 pub of_map : (jobs : List JobHead) (queues : List Queue) (m : BTreeMap (List ℕ) Sums) → IsOrdered (slice_cmp nat_cmp) m
     → ((name : List ℕ) → AreSumsOf (jobs_for name jobs) (get (slice_cmp nat_cmp) m name)) → map entry_of queues ≡ m.entries → AreQueues jobs queues
 of_map jobs queues m ordered sums same = record {
   sums = λ k d h.
       let there : k < length m.entries = subst (λ (es : List (List ℕ × Sums)). k < length es) same (omega (arith, length-map queues entry_of)) in
-      let at : get_or m.entries k (entry_of d) ≡ entry_of (get_or queues k d) = ap (λ (es : List (List ℕ × Sums)). get_or es k (entry_of d)) (sym same) ∙ map_at entry_of queues k (entry_of d) d h in
+      let at : get_or m.entries k (entry_of d) ≡ entry_of (get_or queues k d) = ap (λ (es : List (List ℕ × Sums)). get_or es k (entry_of d)) (sym same) ∙ get_or-map entry_of queues k d (entry_of d) h in
       let found = All-found nat_list_cmp_total m ordered k (entry_of d) there in
       let here : get (slice_cmp nat_cmp) m (get_or queues k d).system ≡ Some (get_or queues k d).sums =
       subst (λ (e : List ℕ × Sums). get (slice_cmp nat_cmp) m e.0 ≡ Some e.1) at found in
@@ -150,8 +147,8 @@ of_map jobs queues m ordered sums same = record {
   by_name = λ i j d below within.
       let count : length (map name_of queues) ≡ length queues = length-map queues name_of in
       let less = Less-from_sorted (slice_cmp nat_cmp) (map name_of queues) i j d.system (subst (IsStrictlySortedBy (slice_cmp nat_cmp)) names ordered) below (omega arith) in
-      subst (λ (b : List ℕ). slice_cmp nat_cmp (get_or queues i d).system b ≡ Less) (map_at name_of queues j d.system d within)
-      (subst (λ (a : List ℕ). slice_cmp nat_cmp a (get_or (map name_of queues) j d.system) ≡ Less) (map_at name_of queues i d.system d (omega arith)) less);
+      subst (λ (b : List ℕ). slice_cmp nat_cmp (get_or queues i d).system b ≡ Less) (get_or-map name_of queues j d d.system within)
+      (subst (λ (a : List ℕ). slice_cmp nat_cmp a (get_or (map name_of queues) j d.system) ≡ Less) (get_or-map name_of queues i d d.system (omega arith)) less);
 }
   where
     names : map (λ (e : List ℕ × Sums). e.0) m.entries ≡ map name_of queues

@@ -96,7 +96,7 @@ next-accept state (Release system jobs) = omega arith
 next-accept state (Entry bytes) = omega arith
 next-accept state (Forget system below) = omega arith
 
-next-after : (state : State) (command : Command) → state.next ≤ (after state command).0.next
+pub next-after : (state : State) (command : Command) → state.next ≤ (after state command).0.next
 next-after state command = by_verdict (verdict state command)
   where
     by_verdict : (v : Option Refusal) → state.next ≤ (after_verdict v state command).0.next

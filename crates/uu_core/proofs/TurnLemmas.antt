@@ -1,7 +1,7 @@
 -- Reasons in the order of their turns.
 use Rattle.std.proofs.Common.{◌≡◌, ◌<◌, Bool, true, false, cond, ◌&&◌, ltb, List, [], ◌∷◌, Option, Some, None, refl, option_map, arith}
 use Rattle.std.specs.List.{list_all}
-use Rattle.std.proofs.lemmas.Bool.{ltb-true}
+use Rattle.std.proofs.lemmas.Bool.{ltb-true, and_parts}
 use Rattle.std.proofs.lemmas.List.Kept.{AllPairs-cons}
 use Rattle.std.proofs.lemmas.List.Sums.{AllPass-from_list_all}
 use Rattle.uu_core.specs.declared.command.Command.{Command}
@@ -19,17 +19,10 @@ abbrev rises : List (Bool × Refusal) → Bool
 rises [] = true
 rises (reason ∷ more) = list_all (λ later. ltb (turn_of reason.1) (turn_of later.1)) more && rises more
 
-and-both : (a b : Bool) → a && b ≡ true → (a ≡ true) × (b ≡ true)
-and-both true b e = (refl, e)
-and-both false b e = absurd (false-true e)
-  where
-    false-true : false ≡ true → ⊥
-    false-true e = cc
-
 in_turn : (reasons : List (Bool × Refusal)) → rises reasons ≡ true → AreInTurn reasons
 in_turn [] e = λ i j d below within. absurd (omega arith)
 in_turn (reason ∷ more) e =
-    let both = and-both (list_all (λ later. ltb (turn_of reason.1) (turn_of later.1)) more) (rises more) e in
+    let both = and_parts (list_all (λ later. ltb (turn_of reason.1) (turn_of later.1)) more) (rises more) e in
     AllPairs-cons (λ earlier later. turn_of earlier.1 < turn_of later.1) reason more
     (λ i d within. ltb-true _ _ (AllPass-from_list_all (λ (later : Bool × Refusal). ltb (turn_of reason.1) (turn_of later.1)) more both.0 i d within))
     (in_turn more both.1)

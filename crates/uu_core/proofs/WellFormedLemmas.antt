@@ -1,16 +1,17 @@
 -- Each command keeps a state well-formed.
-use Rattle.std.proofs.Common.{◌≡◌, ℕ, suc, ◌+◌, ◌<◌, ◌≤◌, ◌*◌, max, Bool, true, false, not, cond, leb, ltb, ◌==◌, ◌||◌, ◌&&◌, List, [], ◌∷◌, ◌++◌, map, filter, find, length, All, AllPairs, Contains, IfSome, IsTrue, Option, Some, None, Result, Ok, Err, get_or, option_and_then, unwrap_or, nat_cmp, refl, ap, sym, ◌∙◌, subst, arith}
+use Rattle.std.proofs.Common.{◌≡◌, ℕ, ◌+◌, ◌<◌, ◌≤◌, ◌*◌, max, Bool, true, false, not, cond, leb, ltb, ◌==◌, List, [], ◌∷◌, ◌++◌, map, filter, find, length, All, AllPairs, Contains, IfSome, IsTrue, Option, Some, None, Result, Ok, Err, get_or, option_and_then, unwrap_or, nat_cmp, refl, ap, sym, ◌∙◌, subst, arith}
 use Rattle.std.specs.List.{list_any}
 use Rattle.std.specs.declared.cmp.Ordering.{Ordering}
 use Rattle.std.specs.declared.cmp.Ordering.TheVariants.{Less, Equal, Greater}
 use Rattle.std.specs.Ordering.{is_lt, ordering_reverse}
 use Rattle.std.specs.Cmp.Lexicographic.{slice_cmp, bytes_decides}
-use Rattle.std.proofs.lemmas.Bool.{cond_both, ltb-true}
+use Rattle.std.proofs.lemmas.Bool.{cond_both, ltb-true, not-false, or_parts, and_parts, ltb-false, both_ways}
 use Rattle.std.proofs.lemmas.Bool.Decides.{nat_tests}
 use Rattle.std.proofs.lemmas.Cmp.{nat_list_cmp_total}
 use Rattle.std.proofs.lemmas.Map.Lookups.{exact_bytes}
 use Rattle.std.proofs.lemmas.List.Kept.{AllPairs-cons, AllPairs-filter}
 use Rattle.std.proofs.lemmas.List.Elements.{All-nil, All-cons, All-head, All-tail, All-weaker, All-map, All-push, All-append, All-filter, All-contains_itself, filter_passes, Contains-append_left, Contains-append_right}
+use Rattle.uu_names.proofs.Basics.{first_of, later_of, in_filter, in_map, some_passes, passing_one, pairs_first, pairs_rest, less_is, found_has, and_then_has, cond_none}
 use Rattle.uu_map.specs.Text.{host_of}
 use Rattle.uu_map.specs.declared.fault.MapFault.{MapFault}
 use Rattle.uu_times.specs.System.{System, HasRetry, IsRetry}
@@ -35,48 +36,30 @@ use Rattle.uu_core.specs.Verdict.{verdict, is_too_large, has_many_arguments, are
 use Rattle.uu_core.specs.After.{after, after_verdict, accept, with_job_once, hand_in_of, with_job, with_taken, forgotten, put_link, is_before, put_by, put_system, call_of, change_job, change_call, job_of, failed_call, done_call, keep_entry, is_among, is_released}
 use Rattle.uu_core.specs.Run.{state_after}
 use Rattle.uu_core.specs.WellFormed.{IsCommand, IsKey, IsNewJob, HasWords}
-use Rattle.uu_core.proofs.Members.{first_of, later_of, kept, mapped, some_passes, passing_one}
 
 -- ---- pairs of a list
 
 module _ {X : Type 0} (R : X → X → Type 0) where
-  pub pairs_first : (x : X) (xs : List X) → AllPairs R (x ∷ xs) → All (R x) xs
-  pairs_first x xs h k d within = h 0 (suc k) d (omega arith) (omega arith)
-
-  pub pairs_rest : (x : X) (xs : List X) → AllPairs R (x ∷ xs) → AllPairs R xs
-  pairs_rest x xs h i j d below within = h (suc i) (suc j) d (omega arith) (omega arith)
-
   pub pairs_nil : AllPairs R []
   pairs_nil i j d below within = absurd (omega (arith, within))
 
   pairs_map : (f : X → X) → ((a b : X) → R a b → R (f a) (f b)) → (xs : List X) → AllPairs R xs → AllPairs R (map f xs)
   pairs_map f keeps [] h = pairs_nil
   pairs_map f keeps (x ∷ xs) h =
-      AllPairs-cons R (f x) (map f xs) (All-map (R (f x)) f xs (All-weaker (R x) (λ y. R (f x) (f y)) (λ y. keeps x y) xs (pairs_first x xs h))) (pairs_map f keeps xs (pairs_rest x xs h))
+      AllPairs-cons R (f x) (map f xs) (All-map (R (f x)) f xs (All-weaker (R x) (λ y. R (f x) (f y)) (λ y. keeps x y) xs (pairs_first R x xs h))) (pairs_map f keeps xs (pairs_rest R x xs h))
 
   pub pairs_push : (xs : List X) (y : X) → All (λ x. R x y) xs → AllPairs R xs → AllPairs R (xs ++ y ∷ [])
   pairs_push [] y below h = AllPairs-cons R y [] (All-nil (R y)) pairs_nil
   pairs_push (x ∷ xs) y below h =
-      AllPairs-cons R x (xs ++ y ∷ []) (All-push (R x) xs y (pairs_first x xs h) (All-head (λ z. R z y) x xs below)) (pairs_push xs y (All-tail (λ z. R z y) x xs below) (pairs_rest x xs h))
+      AllPairs-cons R x (xs ++ y ∷ []) (All-push (R x) xs y (pairs_first R x xs h) (All-head (λ z. R z y) x xs below)) (pairs_push xs y (All-tail (λ z. R z y) x xs below) (pairs_rest R x xs h))
 
   pub pairs_append : (xs ys : List X) → AllPairs R xs → AllPairs R ys → All (λ x. All (R x) ys) xs → AllPairs R (xs ++ ys)
   pairs_append [] ys h k across = k
   pairs_append (x ∷ xs) ys h k across =
-      AllPairs-cons R x (xs ++ ys) (All-append (R x) xs ys (pairs_first x xs h) (All-head (λ z. All (R z) ys) x xs across))
-      (pairs_append xs ys (pairs_rest x xs h) k (All-tail (λ z. All (R z) ys) x xs across))
+      AllPairs-cons R x (xs ++ ys) (All-append (R x) xs ys (pairs_first R x xs h) (All-head (λ z. All (R z) ys) x xs across))
+      (pairs_append xs ys (pairs_rest R x xs h) k (All-tail (λ z. All (R z) ys) x xs across))
 
 -- ---- an item put in its place
-
-less_is : (r : Ordering) → is_lt r ≡ true → r ≡ Less
-less_is Less e = refl
-less_is Equal e = absurd (apart e)
-  where
-    apart : false ≡ true → ⊥
-    apart q = cc
-less_is Greater e = absurd (apart e)
-  where
-    apart : false ≡ true → ⊥
-    apart q = cc
 
 module _ {V : Type 0} (name : V → List ℕ) (item : V) where
   abbrev earlier : List V → List V
@@ -119,11 +102,11 @@ module _ {V : Type 0} (name : V → List ℕ) (item : V) where
 
       by-place : (x : V) → Contains xs x → q x ≡ true → (r : Ordering) → slice_cmp nat_cmp (name item) (name x) ≡ r → list_any q (put_by name item xs) ≡ true
       by-place x there e Less l =
-          some_passes q (put_by name item xs) x (Contains-append_right (earlier xs) (item ∷ later xs) x (later_of item x (later xs) (kept (λ v. is_before name item v) xs x there (ap is_lt l)))) e
+          some_passes q (put_by name item xs) x (Contains-append_right (earlier xs) (item ∷ later xs) x (later_of item x (later xs) (in_filter (λ v. is_before name item v) xs x there (ap is_lt l)))) e
       by-place x there e Equal l =
           some_passes q (put_by name item xs) item (Contains-append_right (earlier xs) (item ∷ later xs) item (first_of item (later xs))) (ap p (exact_bytes (name item) (name x) l) ∙ e)
       by-place x there e Greater l =
-          some_passes q (put_by name item xs) x (Contains-append_left (earlier xs) (item ∷ later xs) x (kept (λ v. is_before name v item) xs x there (ap is_lt (nat_list_cmp_total.antisymm (name x) (name item) ∙ ap ordering_reverse l)))) e
+          some_passes q (put_by name item xs) x (Contains-append_left (earlier xs) (item ∷ later xs) x (in_filter (λ v. is_before name v item) xs x there (ap is_lt (nat_list_cmp_total.antisymm (name x) (name item) ∙ ap ordering_reverse l)))) e
 
 -- ---- jobs and systems that change
 
@@ -167,58 +150,25 @@ module _ (name : List ℕ) (change : SystemRow → CallState) where
   calls_any : (rows : List SystemRow) (other : List ℕ) → list_any (is_system other) rows ≡ true → list_any (is_system other) (change_call name change rows) ≡ true
   calls_any rows other h =
       let r = passing_one (is_system other) rows h in
-      some_passes (is_system other) (map called rows) (called r.0) (mapped called rows r.0 r.1) (ap (λ (d : System). same_text d.name other) (still_defined r.0) ∙ r.2)
+      some_passes (is_system other) (map called rows) (called r.0) (in_map called rows r.0 r.1) (ap (λ (d : System). same_text d.name other) (still_defined r.0) ∙ r.2)
 
 -- ---- why a command is accepted
-
-pub none_first : (test : Bool) (refusal : Refusal) (more : Option Refusal) → cond test (Some refusal) more ≡ None → (test ≡ false) × (more ≡ None)
-none_first true refusal more e = absurd (apart e)
-  where
-    apart : Some refusal ≡ None → ⊥
-    apart q = cc
-none_first false refusal more e = (refl, e)
-
-pub not_false : (t : Bool) → not t ≡ false → t ≡ true
-not_false true e = refl
-not_false false e = sym e
-
-pub or_false : (a b : Bool) → a || b ≡ false → (a ≡ false) × (b ≡ false)
-or_false false b e = (refl, e)
-or_false true b e = absurd (apart e)
-  where
-    apart : true ≡ false → ⊥
-    apart q = cc
-
-pub within : (most n : ℕ) → ltb most n ≡ false → n ≤ most
-within most n e = grind (arith, nat_tests)
-
-pub and_true : (a b : Bool) → a && b ≡ true → (a ≡ true) × (b ≡ true)
-and_true true b e = (refl, e)
-and_true false b e = absurd (cc)
 
 -- why a job that comes for the first time under a key is accepted
 pub once_accepted : (known : Bool) (next below : ℕ) (other : Bool) (key : Key) (job : NewJob) → first_reason (fresh_reasons known next below other key job) ≡ None → (is_too_large job ≡ false) × (known ≡ true) × ((next == numbers_end) ≡ false) × (below ≤ key.number) × (other ≡ false)
 once_accepted known next below other key job e =
-    let first = none_first (is_too_large job) _ _ e in
-    let second = none_first (not known) _ _ first.1 in
-    let third = none_first (next == numbers_end) _ _ second.1 in
-    let fourth = none_first (ltb key.number below) _ _ third.1 in
-    (first.0, not_false known second.0, third.0, within key.number below fourth.0, (none_first other _ _ fourth.1).0)
+    let first = cond_none (is_too_large job) _ _ e in
+    let second = cond_none (not known) _ _ first.1 in
+    let third = cond_none (next == numbers_end) _ _ second.1 in
+    let fourth = cond_none (ltb key.number below) _ _ third.1 in
+    (first.0, not-false known second.0, third.0, ltb-false key.number below fourth.0, (cond_none other _ _ fourth.1).0)
 
 kind_within : (kind : Kind) → HasWords kind → has_many_arguments kind ≡ false → IsKind kind
 kind_within (Send source target) h e = h
 kind_within (Request source target) h e = h
-kind_within (Execute command arguments) h e = (h.0, h.1, within 64 (length arguments) e)
+kind_within (Execute command arguments) h e = (h.0, h.1, ltb-false 64 (length arguments) e)
 
 -- ---- waits
-
-find_has : {X : Type 0} (P : X → Type 0) (p : X → Bool) (xs : List X) → All P xs → IfSome (find p xs) P
-find_has P p [] h = tt
-find_has P p (x ∷ xs) h = cond_both (p x) (Some x) (find p xs) (λ o. IfSome o P) (λ _. All-head P x xs h) (λ _. find_has P p xs (All-tail P x xs h))
-
-line_has : (lines : List Line) (week : ℕ) (limit : Option ℕ) → All HasRetry lines → IfSome (option_and_then (λ grade. find (λ line. line.grade == grade) (lines_at lines week)) limit) HasRetry
-line_has lines week None h = tt
-line_has lines week (Some grade) h = find_has HasRetry (λ line. line.grade == grade) (lines_at lines week) (All-filter _ HasRetry lines h)
 
 retry_within : (line : Option Line) (growing : ℕ) → IfSome line HasRetry → growing ≤ 1440 → unwrap_or (option_and_then (λ l. l.retry) line) growing ≤ 525600
 retry_within None growing h g = omega (arith, g)
@@ -238,7 +188,7 @@ minutes_within false minutes h = omega (arith, h)
 wait_within : (def : System) (week failures : ℕ) → IsDefinition def → wait_after def week failures ≤ 31536000
 wait_within def week failures h =
     minutes_within (leb def.max_retries failures) (retry_minutes def.lines week failures)
-    (retry_within (line_at def.lines week) (growing_minutes failures) (line_has def.lines week (limit_at def.lines week) h.limits.1) (growing_within failures))
+    (retry_within (line_at def.lines week) (growing_minutes failures) (and_then_has HasRetry (λ grade. find (λ (line : Line). line.grade == grade) (lines_at def.lines week)) (λ grade. found_has HasRetry (λ (line : Line). line.grade == grade) (lines_at def.lines week) (All-filter _ HasRetry def.lines h.limits.1)) (limit_at def.lines week)) (growing_within failures))
 
 call_known : (row : Option SystemRow) → IfSome row (λ (row : SystemRow). IsCall row.call) → IsCall (call_of row)
 call_known None h = record { last = omega arith; failures = omega arith; wait = omega arith; outcome = (refl, refl, refl) }
@@ -347,7 +297,7 @@ module _ (state : State) (h : IsWellFormed state) where
         below_next = h.below_next;
         placed = All-weaker (λ (job : Job). IsTrue (has_system state job.system)) (λ (job : Job). IsTrue (list_any (is_system job.system) (put_system item state.systems))) (λ job p. put_any (λ (row : SystemRow). row.def.name) item (λ n. same_text n job.system) state.systems p) state.jobs h.placed;
         definitions = put_all (λ (row : SystemRow). row.def.name) item (λ (row : SystemRow). IsDefinition row.def) state.systems good h.definitions;
-        calls = put_all (λ (row : SystemRow). row.def.name) item (λ (row : SystemRow). IsCall row.call) state.systems (call_known (system_at state def.name) (find_has (λ (row : SystemRow). IsCall row.call) (is_system def.name) state.systems h.calls)) h.calls;
+        calls = put_all (λ (row : SystemRow). row.def.name) item (λ (row : SystemRow). IsCall row.call) state.systems (call_known (system_at state def.name) (found_has (λ (row : SystemRow). IsCall row.call) (is_system def.name) state.systems h.calls)) h.calls;
         by_name = put_in_order (λ (row : SystemRow). row.def.name) item state.systems h.by_name;
         hosts = h.hosts;
         by_host = h.by_host;
@@ -376,26 +326,23 @@ module _ (state : State) (h : IsWellFormed state) where
     by_link = AllPairs-filter (λ (a b : Link). ComesBefore a.name b.name) (λ (link : Link). not (is_link name link)) state.links h.by_link;
   }
     where
-      apart : {t : Bool} → t ≡ true → t ≡ false → ⊥
-      apart q r = cc
-
       other : (t : Bool) (job : Job) (row : SystemRow) → is_system name row ≡ t → Contains state.jobs job → is_system job.system row ≡ true → not t ≡ true
       other false job row e there own = refl
       other true job row e there own =
           let owned : row.def.name ≡ job.system = (bytes_decides row.def.name job.system).0 own in
-          absurd (apart (some_passes (λ (j : Job). same_text j.system name) state.jobs job there (ap (λ n. same_text n name) (sym owned) ∙ e)) none)
+          absurd (both_ways _ none (some_passes (λ (j : Job). same_text j.system name) state.jobs job there (ap (λ n. same_text n name) (sym owned) ∙ e)))
 
       stays : (job : Job) → IsTrue (has_system state job.system) → Contains state.jobs job → IsTrue (list_any (is_system job.system) (filter (λ (row : SystemRow). not (is_system name row)) state.systems))
       stays job p there =
           let r = passing_one (is_system job.system) state.systems p in
           let left : not (is_system name r.0) ≡ true = other (is_system name r.0) job r.0 refl there r.2 in
-          some_passes (is_system job.system) (filter (λ (row : SystemRow). not (is_system name row)) state.systems) r.0 (kept (λ (row : SystemRow). not (is_system name row)) state.systems r.0 r.1 left) r.2
+          some_passes (is_system job.system) (filter (λ (row : SystemRow). not (is_system name row)) state.systems) r.0 (in_filter (λ (row : SystemRow). not (is_system name row)) state.systems r.0 r.1 left) r.2
 
       -- a link that stays has another system
       goes-on : (link : Link) → IsTrue (has_system state link.name) → not (is_link name link) ≡ true → IsTrue (list_any (is_system link.name) (filter (λ (row : SystemRow). not (is_system name row)) state.systems))
       goes-on link p other_name =
           let r = passing_one (is_system link.name) state.systems p in
-          some_passes (is_system link.name) (filter (λ (row : SystemRow). not (is_system name row)) state.systems) r.0 (kept (λ (row : SystemRow). not (is_system name row)) state.systems r.0 r.1 (left (is_system name r.0) r.0 refl r.2)) r.2
+          some_passes (is_system link.name) (filter (λ (row : SystemRow). not (is_system name row)) state.systems) r.0 (in_filter (λ (row : SystemRow). not (is_system name row)) state.systems r.0 r.1 (left (is_system name r.0) r.0 refl r.2)) r.2
         where
           turned : (t : Bool) → t ≡ true → not t ≡ true → ⊥
           turned true e q = cc
@@ -410,7 +357,7 @@ module _ (state : State) (h : IsWellFormed state) where
   still_queue : (job : NewJob) → IsNewJob job → is_too_large job ≡ false → has_system state job.system ≡ true → (state.next == numbers_end) ≡ false → IsWellFormed (accept state (Queue job))
   still_queue job good small known free =
       let new = job_of state.next job in
-      let sizes = or_false (ltb most_bytes (length job.bytes)) (has_many_arguments job.kind) small in
+      let sizes = or_parts (ltb most_bytes (length job.bytes)) (has_many_arguments job.kind) small in
       let fits : IsJob new = record {
         number = h.some_next;
         system = good.system;
@@ -418,7 +365,7 @@ module _ (state : State) (h : IsWellFormed state) where
         user = good.user;
         kind = kind_within job.kind good.kind sizes.1;
         queued = good.at;
-        bytes = within most_bytes (length job.bytes) sizes.0;
+        bytes = ltb-false most_bytes (length job.bytes) sizes.0;
       } in
       record {
         some_next = omega arith;
@@ -525,7 +472,7 @@ module _ (state : State) (h : IsWellFormed state) where
       record { below = good.below; numbers = good.numbers; rising = good.rising; at_least = good.at_least; jobs = h.taken k d inside }
 
   holds : (name : List ℕ) → Holds state.next (link_of state name)
-  holds name = unwrap_has (Holds state.next) (find (is_link name) state.links) (new_link name) (find_has (Holds state.next) (is_link name) state.links holds-all) (new_holds state.next name)
+  holds name = unwrap_has (Holds state.next) (find (is_link name) state.links) (new_link name) (found_has (Holds state.next) (is_link name) state.links holds-all) (new_holds state.next name)
 
   still_link : (link : Link) → Holds state.next link → IsTrue (has_system state link.name) → IsWellFormed (record state { links = put_link link state.links })
   still_link link good known = by-test (says_nothing link) refl
@@ -559,7 +506,7 @@ module _ (state : State) (h : IsWellFormed state) where
 still_once : (state : State) (key : Key) (job : NewJob) (other : Bool) → IsWellFormed state → IsKey key → IsNewJob job → first_reason (fresh_reasons (are_known state key job) state.next (link_of state key.from).below other key job) ≡ None → IsWellFormed (with_job_once (First state.next) key job state)
 still_once state key job other h good fine e =
     let why = once_accepted (are_known state key job) state.next (link_of state key.from).below other key job e in
-    let both = and_true (has_system state key.from) (has_system state job.system) why.1 in
+    let both = and_parts (has_system state key.from) (has_system state job.system) why.1 in
     let then = still_queue state h job fine why.0 both.1 why.2 in
     let old = holds state h key.from in
     let row : Taken = record { number = key.number; mark = key.mark; job = state.next } in
@@ -575,11 +522,11 @@ done-call row at good def = record { last = good; failures = omega arith; wait =
 
 still_accepted : (state : State) (command : Command) → IsWellFormed state → IsCommand command → verdict state command ≡ None → IsWellFormed (accept state command)
 still_accepted state (Define def) h good e = still_define state h def good
-still_accepted state (Remove name) h good e = still_remove state h name (none_first (is_waiting state name) _ _ (none_first (not (has_system state name)) _ _ e).1).0
+still_accepted state (Remove name) h good e = still_remove state h name (cond_none (is_waiting state name) _ _ (cond_none (not (has_system state name)) _ _ e).1).0
 still_accepted state (Queue job) h good e =
-    let first = none_first (is_too_large job) _ _ e in
-    let second = none_first (not (has_system state job.system)) _ _ first.1 in
-    still_queue state h job good first.0 (not_false (has_system state job.system) second.0) (none_first (state.next == numbers_end) _ _ second.1).0
+    let first = cond_none (is_too_large job) _ _ e in
+    let second = cond_none (not (has_system state job.system)) _ _ first.1 in
+    still_queue state h job good first.0 (not-false (has_system state job.system) second.0) (cond_none (state.next == numbers_end) _ _ second.1).0
 still_accepted state (QueueOnce key job) h good e = by_taken (taken_of state key) e
   where
     by_taken : (taken : Option Taken) → first_reason (once_reasons (are_known state key job) state.next (link_of state key.from).below taken key job) ≡ None → IsWellFormed (with_job_once (hand_in_of taken key state.next) key job state)
@@ -600,7 +547,7 @@ still_accepted state (Done system at jobs) h good e =
 still_accepted state (Release system jobs) h good e = still_filtered state h (λ (job : Job). not (is_released system jobs job))
 still_accepted state (Entry bytes) h good e = still_entry state h bytes
 still_accepted state (Forget system below) h good e =
-    let known = not_false (has_system state system) (none_first (not (has_system state system)) _ _ e).0 in
+    let known = not-false (has_system state system) (cond_none (not (has_system state system)) _ _ e).0 in
     still_link state h (forgotten below (link_of state system)) (holds_fewer state.next below (link_of state system) (holds state h system) good) (link-known state h system known)
 
 pub still : (state : State) (command : Command) → IsCommand command → IsWellFormed state → IsWellFormed (after state command).0

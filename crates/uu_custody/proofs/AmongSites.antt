@@ -1,8 +1,9 @@
 -- What goes around among several sites in bundles goes by bundles over each line.
-use Rattle.std.proofs.Common.{◌≡◌, ◌<◌, ℕ, Bool, true, false, cond, ◌==◌, List, [], ◌∷◌, ◌++◌, map, take, Contains, refl, sym, ap, subst, ◌∙◌, arith, inl, inr}
-use Rattle.std.proofs.lemmas.Bool.Decides.{nat_tests}
+use Rattle.std.proofs.Common.{◌≡◌, ◌<◌, ℕ, Bool, true, false, cond, ◌==◌, List, [], ◌∷◌, ◌++◌, map, take, Contains, refl, sym, ap, subst, ◌∙◌, inl, inr}
 use Rattle.std.proofs.lemmas.List.{append-nil}
 use Rattle.std.proofs.lemmas.List.Elements.{All-weaker, Contains-append_left, Contains-append_right, Contains-push_cases}
+use Rattle.std.proofs.lemmas.Bool.{eqb-true, eqb-false}
+use Rattle.uu_names.proofs.Basics.{first_of, none_in, not_both_equal}
 use Rattle.sqlite_wal.specs.Recovery.{Image}
 use Rattle.uu_core.specs.declared.command.Command.{Command}
 use Rattle.uu_core.specs.declared.command.Reply.{Reply}
@@ -19,14 +20,7 @@ use Rattle.uu_custody.specs.Sites.{HandsOver, AllHandOver, AllAreFree}
 use Rattle.uu_custody.specs.Carried.{Deed, runs, stops, says, notices_of, events_of, Saying, sayings_at, WereSaidInFiles, BundleLine, unpack, settle, other, Bundles, nothing_said, MayBeLine, IsOfLine, GoesByBundles}
 use Rattle.uu_custody.specs.Carried.{with_first as with_first_said, after_answer as after_command}
 use Rattle.uu_custody.specs.AmongSites.{AreNamed, MayBeLineAt, IsOfLineAt, GoAround, seen_by, with_first, exchanges_in, GoOn, IsInFiles, AreAmong, AreFreeOverAll}
-use Rattle.uu_custody.proofs.Lists.{first_of, none_in}
 use Rattle.uu_custody.proofs.Said.{MaySay, MayShow, MayTell, sides, not_here, were_shown}
-
-eq_of : (a b : ℕ) → a == b ≡ true → a ≡ b
-eq_of a b e = grind (arith, nat_tests)
-
-eq_is : (a b : ℕ) → a ≡ b → a == b ≡ true
-eq_is a b e = grind (arith, nat_tests)
 
 -- what the sites of a line said is among the line's bundles
 record Knows (said : List Bundle) (one other : List ℕ) (bundles : Bundles) : Type 0 where
@@ -109,12 +103,6 @@ module _ (chart : Chart) (name : ℕ → List ℕ) (named : AreNamed chart name)
   unsaid : (said : List Bundle) (bundles : Bundles) → KnowsHere said bundles → KnowsHere (said ++ []) bundles
   unsaid said bundles knows = subst (λ l. KnowsHere l bundles) (sym (append-nil said)) knows
 
-  not_it : (a b : ℕ) → a == b ≡ false → ¬ (a ≡ b)
-  not_it a b e same = apart (eq_is a b same) e
-    where
-      apart : {t : Bool} → t ≡ true → t ≡ false → ⊥
-      apart p q = cc
-
   goes : (said : List Bundle) (bundles : Bundles) (deeds : List (Deed ℕ)) → KnowsHere said bundles → GoAround chart name said deeds → GoesByBundles agreed bundles (seen_by chart line deeds)
   goes said bundles [] knows around = tt
   goes said bundles (runs site command reply ∷ deeds) knows around =
@@ -122,8 +110,8 @@ module _ (chart : Chart) (name : ℕ → List ℕ) (named : AreNamed chart name)
     where
       by_ends : (s t : Bool) → chart.begins line == site ≡ s → chart.ends line == site ≡ t → GoesByBundles agreed bundles (seen_by chart line deeds)
           → GoesByBundles agreed bundles (map (λ side. runs side command reply) (cond s (sender ∷ []) (cond t (receiver ∷ []) [])) ++ seen_by chart line deeds)
-      by_ends true t e f rest = (sent said bundles knows site command (eq_of (chart.begins line) site e) around.0, rest)
-      by_ends false true e f rest = (received said bundles knows site command (eq_of (chart.ends line) site f) around.0, rest)
+      by_ends true t e f rest = (sent said bundles knows site command (eqb-true (chart.begins line) site e) around.0, rest)
+      by_ends false true e f rest = (received said bundles knows site command (eqb-true (chart.ends line) site f) around.0, rest)
       by_ends false false e f rest = rest
   goes said bundles (stops site in_hand unanswered ending ∷ deeds) knows around =
       by_ends (chart.begins line == site) (chart.ends line == site) refl refl (goes (said ++ []) bundles deeds (unsaid said bundles knows) around.1)
@@ -131,9 +119,9 @@ module _ (chart : Chart) (name : ℕ → List ℕ) (named : AreNamed chart name)
       by_ends : (s t : Bool) → chart.begins line == site ≡ s → chart.ends line == site ≡ t → GoesByBundles agreed bundles (seen_by chart line deeds)
           → GoesByBundles agreed bundles (map (λ side. stops side in_hand unanswered ending) (cond s (sender ∷ []) (cond t (receiver ∷ []) [])) ++ seen_by chart line deeds)
       by_ends true t e f rest =
-          (All-weaker (IsOfLineAt chart name said site) (IsOfLine agreed bundles sender) (λ command of. sent said bundles knows site command (eq_of (chart.begins line) site e) of) (take in_hand unanswered) around.0, rest)
+          (All-weaker (IsOfLineAt chart name said site) (IsOfLine agreed bundles sender) (λ command of. sent said bundles knows site command (eqb-true (chart.begins line) site e) of) (take in_hand unanswered) around.0, rest)
       by_ends false true e f rest =
-          (All-weaker (IsOfLineAt chart name said site) (IsOfLine agreed bundles receiver) (λ command of. received said bundles knows site command (eq_of (chart.ends line) site f) of) (take in_hand unanswered) around.0, rest)
+          (All-weaker (IsOfLineAt chart name said site) (IsOfLine agreed bundles receiver) (λ command of. received said bundles knows site command (eqb-true (chart.ends line) site f) of) (take in_hand unanswered) around.0, rest)
       by_ends false false e f rest = rest
   goes said bundles (says site bundle ∷ deeds) knows around =
       by_ends (chart.begins line == site) (chart.ends line == site) refl refl (λ then now. goes (said ++ bundle ∷ []) then deeds now around.1)
@@ -142,10 +130,10 @@ module _ (chart : Chart) (name : ℕ → List ℕ) (named : AreNamed chart name)
           → ((then : Bundles) → KnowsHere (said ++ bundle ∷ []) then → GoesByBundles agreed then (seen_by chart line deeds))
           → GoesByBundles agreed bundles (map (λ side. says side bundle) (cond s (sender ∷ []) (cond t (receiver ∷ []) [])) ++ seen_by chart line deeds)
       by_ends true t e f rest =
-          let here = eq_of (chart.begins line) site e in
+          let here = eqb-true (chart.begins line) site e in
           (around.0.1 line here, rest (record bundles { out = bundles.out ++ bundle ∷ [] }) (said_there said bundles knows site bundle around.0.0 here))
-      by_ends false true e f rest = (tt, rest (record bundles { back = bundles.back ++ bundle ∷ [] }) (said-back said bundles knows site bundle around.0.0 (eq_of (chart.ends line) site f)))
-      by_ends false false e f rest = rest bundles (said_elsewhere said bundles knows site bundle around.0.0 (not_it (chart.begins line) site e) (not_it (chart.ends line) site f))
+      by_ends false true e f rest = (tt, rest (record bundles { back = bundles.back ++ bundle ∷ [] }) (said-back said bundles knows site bundle around.0.0 (eqb-true (chart.ends line) site f)))
+      by_ends false false e f rest = rest bundles (said_elsewhere said bundles knows site bundle around.0.0 (eqb-false (chart.begins line) site e) (eqb-false (chart.ends line) site f))
 
   pub goes_by_bundles : (deeds : List (Deed ℕ)) → GoAround chart name [] deeds → GoesByBundles (chart.crossing line) nothing_said (seen_by chart line deeds)
   goes_by_bundles deeds around = goes [] nothing_said deeds (record { out = λ bundle there. absurd (none_in bundle there); back = λ bundle there. absurd (none_in bundle there) }) around
@@ -174,9 +162,6 @@ module _ (chart : Chart) (line : ℕ) (far : ¬ (chart.begins line ≡ chart.end
   abbrev crossing : Crossing
   crossing = chart.crossing line
 
-  never : (site : ℕ) → chart.begins line == site ≡ true → chart.ends line == site ≡ true → ⊥
-  never site e f = far (eq_of (chart.begins line) site e ∙ sym (eq_of (chart.ends line) site f))
-
   abbrev told : Side → List (Deed ℕ) → List Exchange
   told side deeds = exchanges_at side (events_of (chart.crossing line) (seen_by chart line deeds))
 
@@ -204,7 +189,7 @@ module _ (chart : Chart) (line : ℕ) (far : ¬ (chart.begins line ≡ chart.end
           → exchanges_at sender (events_of crossing (map (λ side. says side bundle) (cond s (sender ∷ []) (cond t (receiver ∷ []) [])) ++ seen_by chart line deeds)) ≡ exchanges_in (chart.begins line) deeds
       by_ends true t e same =
           of_notices sender (notices_of crossing sender bundle) (events_of crossing (seen_by chart line deeds))
-          (λ none. on.0 (subst (λ (n : ℕ). exchanges_in n deeds ≡ []) (eq_of (chart.begins line) site e) (sym same ∙ none))) ∙ same
+          (λ none. on.0 (subst (λ (n : ℕ). exchanges_in n deeds ≡ []) (eqb-true (chart.begins line) site e) (sym same ∙ none))) ∙ same
       by_ends false true e same =
           ap (map (λ (session : Session). session.exchange)) (not_here sender (notices_of crossing receiver bundle) (events_of crossing (seen_by chart line deeds)) (λ notice inside. ap (is_at sender) (sides crossing receiver bundle notice inside))) ∙ same
       by_ends false false e same = same
@@ -216,7 +201,7 @@ module _ (chart : Chart) (line : ℕ) (far : ¬ (chart.begins line ≡ chart.end
       by_ends : (s t : Bool) → chart.begins line == site ≡ s → chart.ends line == site ≡ t → told receiver deeds ≡ exchanges_in (chart.ends line) deeds
           → exchanges_at receiver (events_of crossing (map (λ side. runs side command reply) (cond s (sender ∷ []) (cond t (receiver ∷ []) [])) ++ seen_by chart line deeds))
           ≡ cond t (with_first (after_answer command reply) (exchanges_in (chart.ends line) deeds)) (exchanges_in (chart.ends line) deeds)
-      by_ends true true e f same = absurd (never site e f)
+      by_ends true true e f same = absurd (not_both_equal (chart.begins line) (chart.ends line) site far e f)
       by_ends true false e f same = same
       by_ends false true e f same = first_answer command reply (sessions_at receiver (events_of crossing (seen_by chart line deeds))) ∙ ap (with_first (after_answer command reply)) same
       by_ends false false e f same = same
@@ -225,7 +210,7 @@ module _ (chart : Chart) (line : ℕ) (far : ¬ (chart.begins line ≡ chart.end
       by_ends : (s t : Bool) → chart.begins line == site ≡ s → chart.ends line == site ≡ t → told receiver deeds ≡ exchanges_in (chart.ends line) deeds
           → exchanges_at receiver (events_of crossing (map (λ side. stops side in_hand unanswered ending) (cond s (sender ∷ []) (cond t (receiver ∷ []) [])) ++ seen_by chart line deeds))
           ≡ cond t (record { commands = unanswered; replies = []; in_hand = in_hand; ending = ending } ∷ exchanges_in (chart.ends line) deeds) (exchanges_in (chart.ends line) deeds)
-      by_ends true true e f same = absurd (never site e f)
+      by_ends true true e f same = absurd (not_both_equal (chart.begins line) (chart.ends line) site far e f)
       by_ends true false e f same = same
       by_ends false true e f same = ap (λ l. record { commands = unanswered; replies = []; in_hand = in_hand; ending = ending } ∷ l) same
       by_ends false false e f same = same
@@ -237,7 +222,7 @@ module _ (chart : Chart) (line : ℕ) (far : ¬ (chart.begins line ≡ chart.end
           ap (map (λ (session : Session). session.exchange)) (not_here receiver (notices_of crossing sender bundle) (events_of crossing (seen_by chart line deeds)) (λ notice inside. ap (is_at receiver) (sides crossing sender bundle notice inside))) ∙ same
       by_ends false true f same =
           of_notices receiver (notices_of crossing receiver bundle) (events_of crossing (seen_by chart line deeds))
-          (λ none. on.0 (subst (λ (n : ℕ). exchanges_in n deeds ≡ []) (eq_of (chart.ends line) site f) (sym same ∙ none))) ∙ same
+          (λ none. on.0 (subst (λ (n : ℕ). exchanges_in n deeds ≡ []) (eqb-true (chart.ends line) site f) (sym same ∙ none))) ∙ same
       by_ends false false f same = same
 
   abbrev said_in : ℕ → List (Deed ℕ) → List (List Saying)
@@ -277,7 +262,7 @@ module _ (chart : Chart) (line : ℕ) (far : ¬ (chart.begins line ≡ chart.end
       by_ends : (s t : Bool) → chart.begins line == site ≡ s → chart.ends line == site ≡ t → sayings_at (is_at receiver) (seen_by chart line deeds) ≡ said_in (chart.ends line) deeds
           → sayings_at (is_at receiver) (map (λ side. runs side command reply) (cond s (sender ∷ []) (cond t (receiver ∷ []) [])) ++ seen_by chart line deeds)
           ≡ cond t (with_first_said (map (after_command command)) (said_in (chart.ends line) deeds)) (said_in (chart.ends line) deeds)
-      by_ends true true e f same = absurd (never site e f)
+      by_ends true true e f same = absurd (not_both_equal (chart.begins line) (chart.ends line) site far e f)
       by_ends true false e f same = same
       by_ends false true e f same = ap (with_first_said (map (after_command command))) same
       by_ends false false e f same = same
@@ -286,7 +271,7 @@ module _ (chart : Chart) (line : ℕ) (far : ¬ (chart.begins line ≡ chart.end
       by_ends : (s t : Bool) → chart.begins line == site ≡ s → chart.ends line == site ≡ t → sayings_at (is_at receiver) (seen_by chart line deeds) ≡ said_in (chart.ends line) deeds
           → sayings_at (is_at receiver) (map (λ side. stops side in_hand unanswered ending) (cond s (sender ∷ []) (cond t (receiver ∷ []) [])) ++ seen_by chart line deeds)
           ≡ cond t ([] ∷ said_in (chart.ends line) deeds) (said_in (chart.ends line) deeds)
-      by_ends true true e f same = absurd (never site e f)
+      by_ends true true e f same = absurd (not_both_equal (chart.begins line) (chart.ends line) site far e f)
       by_ends true false e f same = same
       by_ends false true e f same = ap (λ l. [] ∷ l) same
       by_ends false false e f same = same
@@ -295,7 +280,7 @@ module _ (chart : Chart) (line : ℕ) (far : ¬ (chart.begins line ≡ chart.end
       by_ends : (s t : Bool) → chart.begins line == site ≡ s → chart.ends line == site ≡ t → sayings_at (is_at receiver) (seen_by chart line deeds) ≡ said_in (chart.ends line) deeds
           → sayings_at (is_at receiver) (map (λ side. says side bundle) (cond s (sender ∷ []) (cond t (receiver ∷ []) [])) ++ seen_by chart line deeds)
           ≡ cond t (with_first_said (λ sayings. record { answered = []; bundle = bundle } ∷ sayings) (said_in (chart.ends line) deeds)) (said_in (chart.ends line) deeds)
-      by_ends true true e f same = absurd (never site e f)
+      by_ends true true e f same = absurd (not_both_equal (chart.begins line) (chart.ends line) site far e f)
       by_ends true false e f same = same
       by_ends false true e f same = ap (with_first_said (λ sayings. record { answered = []; bundle = bundle } ∷ sayings)) same
       by_ends false false e f same = same

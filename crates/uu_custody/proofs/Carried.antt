@@ -2,17 +2,17 @@
 use Rattle.std.proofs.Common.{◌≡◌, ◌⊎◌, ◌≤◌, inl, inr, ℕ, Bool, true, false, cond, List, [], ◌∷◌, ◌++◌, map, take, All, Contains, sym, ap, ap₂, subst, ◌∙◌, arith}
 use Rattle.std.specs.Cmp.Lexicographic.{bytes_decides}
 use Rattle.std.proofs.lemmas.List.Elements.{All-nil, All-contains, All-weaker, Contains-append_left, Contains-append_right, Contains-push_cases}
+use Rattle.uu_names.proofs.Basics.{first_of, later_of, first_or_later, none_in, from_map, in_map, in_append, in_one}
 use Rattle.uu_times.specs.declared.moment.Moment.{Moment}
 use Rattle.uu_core.specs.declared.command.Command.{Command}
 use Rattle.uu_core.specs.declared.command.Command.TheVariants.{Define, Remove, Queue, QueueOnce, Kill, Regrade, Rejuvenate, Failed, Done, Release, Entry, Forget}
 use Rattle.uu_core.specs.declared.custody.Key.{Key}
 use Rattle.uu_core.specs.declared.job.NewJob.{NewJob}
 use Rattle.uu_core.specs.State.{same_text}
-use Rattle.uu_handover.specs.Bundles.{Bundle, Told, Packed, IsFront}
+use Rattle.uu_handover.specs.Bundles.{Bundle, Told, Packed}
 use Rattle.uu_handover.specs.Custody.{Parcel, Crossing, key_of}
 use Rattle.uu_custody.specs.Events.{Side, sender, receiver, Notice, waits, no_more, has, Event, answered, stopped, noticed, Wire, nothing_sent, answers_in, after_event, IsFromWire, MayBeGiven, KeepsToWire, MayForget, ForgetsWhatWasSaid}
 use Rattle.uu_custody.specs.Carried.{Deed, runs, stops, says, notices_of, events_of, key_in, unpack, settle, other, commands_of, Bundles, nothing_said, IsBeside, IsOfLine, IsMarked, GoesByBundles}
-use Rattle.uu_custody.proofs.Lists.{first_of, later_of, first_or_later, none_in, from_map}
 
 -- ---- the wire keeps what is on it
 
@@ -81,13 +81,6 @@ still_covers crossing bundles wire later grows c = record {
   told = λ bundle there to told inside. grows.answers told.number (c.told bundle there to told inside);
 }
 
-mapped : {X Y : Type 0} (f : X → Y) (xs : List X) (x : X) → Contains xs x → Contains (map f xs) (f x)
-mapped f [] x h = absurd (none_in x h)
-mapped f (y ∷ xs) x h = elim (first_or_later y x xs h) [
-  | inl same ↦ subst (λ z. Contains (f y ∷ map f xs) (f z)) same (first_of (f y) (map f xs))
-  | inr later ↦ later_of (f y) (f x) (map f xs) (mapped f xs x later)
-]
-
 module _ (crossing : Crossing) (wire : Wire) (bundle : Bundle) where
   abbrev sent : List Notice
   sent = no_more bundle.below ∷ map (λ (packed : Packed). waits packed.parcel) bundle.jobs
@@ -119,7 +112,7 @@ module _ (crossing : Crossing) (wire : Wire) (bundle : Bundle) where
           | inr same ↦
               (let own = subst (λ (b : Bundle). Contains b.jobs packed) (sym same) inside in
               let for = ap (λ (b : Bundle). b.to) same ∙ to in
-              (sent_on for (waits packed.parcel) (later_of (no_more bundle.below) (waits packed.parcel) (map (λ (p : Packed). waits p.parcel) bundle.jobs) (mapped (λ (p : Packed). waits p.parcel) bundle.jobs packed own)), All-contains (λ (p : Packed). p.mark ≡ crossing.mark p.parcel) bundle.jobs packed (marked for) own))
+              (sent_on for (waits packed.parcel) (later_of (no_more bundle.below) (waits packed.parcel) (map (λ (p : Packed). waits p.parcel) bundle.jobs) (in_map (λ (p : Packed). waits p.parcel) bundle.jobs packed own)), All-contains (λ (p : Packed). p.mark ≡ crossing.mark p.parcel) bundle.jobs packed (marked for) own))
         ];
         below = λ other there to. elim (Contains-push_cases bundles.out bundle other there) [
           | inl was ↦ grown.below other was to
@@ -138,17 +131,11 @@ module _ (crossing : Crossing) (wire : Wire) (bundle : Bundle) where
         below = grown.below;
         told = λ other there to told inside. elim (Contains-push_cases bundles.back bundle other there) [
           | inl was ↦ grown.told other was to told inside
-          | inr same ↦ back_on (ap (λ (b : Bundle). b.to) same ∙ to) (has told.number) (mapped (λ (t : Told). has t.number) bundle.has told (subst (λ (b : Bundle). Contains b.has told) (sym same) inside))
+          | inr same ↦ back_on (ap (λ (b : Bundle). b.to) same ∙ to) (has told.number) (in_map (λ (t : Told). has t.number) bundle.has told (subst (λ (b : Bundle). Contains b.has told) (sym same) inside))
         ];
       }
 
 -- ---- a command of a line
-
-of-one : (one command : Command) → Contains (one ∷ []) command → one ≡ command
-of-one one command there = elim (first_or_later one command [] there) [
-  | inl same ↦ same
-  | inr later ↦ absurd (none_in command later)
-]
 
 -- what `unpack` gives
 abbrev IsUnpacked : Bundle → (Packed → NewJob) → Command → Type 0
@@ -160,9 +147,6 @@ of_unpack bundle make command there = elim (first_or_later (Forget bundle.from b
   | inr later ↦ inr (from_map (λ (packed : Packed). QueueOnce (key_in bundle packed) (make packed)) bundle.jobs command later)
 ]
 
-in_front : {X : Type 0} (first all : List X) (x : X) → IsFront first all → Contains first x → Contains all x
-in_front first all x front there = subst (λ l. Contains l x) (sym front.is) (Contains-append_left first front.rest x there)
-
 module _ (crossing : Crossing) (bundles : Bundles) (wire : Wire) (c : Covers crossing bundles wire) where
   -- ---- the sender's
 
@@ -172,9 +156,9 @@ module _ (crossing : Crossing) (bundles : Bundles) (wire : Wire) (c : Covers cro
       by-case : IsUnpacked bundle make (Done system at jobs) → ⊥
       by-case (inl e) = cc
       by-case (inr (packed, inside, e)) = cc
-  reports system at jobs (settle bundle numbers, may, there) own = absurd (let same = of-one (Release bundle.from numbers) (Done system at jobs) there in cc)
+  reports system at jobs (settle bundle numbers, may, there) own = absurd (let same = in_one (Release bundle.from numbers) (Done system at jobs) there in cc)
   reports system at jobs (other command, may, there) own =
-      let none = subst (IsBeside crossing sender) (of-one command (Done system at jobs) there) may own in
+      let none = subst (IsBeside crossing sender) (in_one command (Done system at jobs) there) may own in
       subst (All (Contains wire.answers)) (sym none) (All-nil (Contains wire.answers))
 
   releases : (system jobs : List ℕ) → IsOfLine crossing bundles sender (Release system jobs) → system ≡ crossing.to → All (Contains wire.answers) jobs
@@ -184,7 +168,7 @@ module _ (crossing : Crossing) (bundles : Bundles) (wire : Wire) (c : Covers cro
       by-case (inl e) = cc
       by-case (inr (packed, inside, e)) = cc
   releases system jobs (settle bundle numbers, may, there) own =
-      let same = of-one (Release bundle.from numbers) (Release system jobs) there in
+      let same = in_one (Release bundle.from numbers) (Release system jobs) there in
       let name : bundle.from ≡ system = cc in
       let named : numbers ≡ jobs = cc in
       let it = may (name ∙ own) in
@@ -194,10 +178,10 @@ module _ (crossing : Crossing) (bundles : Bundles) (wire : Wire) (c : Covers cro
       (All-weaker (Contains (map (λ (t : Told). t.number) bundle.has)) (Contains wire.answers)
       (λ number inside.
       let one = from_map (λ (t : Told). t.number) bundle.has number inside in
-      subst (Contains wire.answers) one.2 (c.told whole it.0.1 (sym front.to ∙ it.1) one.0 (in_front bundle.has whole.has one.0 front.has one.1)))
+      subst (Contains wire.answers) one.2 (c.told whole it.0.1 (sym front.to ∙ it.1) one.0 (in_append whole.has bundle.has front.has.rest one.0 front.has.is one.1)))
       numbers it.2)
   releases system jobs (other command, may, there) own =
-      let none = subst (IsBeside crossing sender) (of-one command (Release system jobs) there) may own in
+      let none = subst (IsBeside crossing sender) (in_one command (Release system jobs) there) may own in
       subst (All (Contains wire.answers)) (sym none) (All-nil (Contains wire.answers))
 
   -- ---- the receiver's
@@ -208,8 +192,8 @@ module _ (crossing : Crossing) (bundles : Bundles) (wire : Wire) (c : Covers cro
       by-case : IsUnpacked bundle make (Remove name) → ⊥
       by-case (inl e) = cc
       by-case (inr (packed, inside, e)) = cc
-  keeps_name name (settle bundle numbers, may, there) own = let same = of-one (Release bundle.from numbers) (Remove name) there in cc
-  keeps_name name (other command, may, there) own = subst (IsBeside crossing receiver) (of-one command (Remove name) there) may own
+  keeps_name name (settle bundle numbers, may, there) own = let same = in_one (Release bundle.from numbers) (Remove name) there in cc
+  keeps_name name (other command, may, there) own = subst (IsBeside crossing receiver) (in_one command (Remove name) there) may own
 
   agreed : (bundle : Bundle) (key : Key) (packed : Packed) → key_in bundle packed ≡ key → bundle.from ≡ crossing.from → packed.mark ≡ crossing.mark packed.parcel → key ≡ key_of crossing packed.parcel
   agreed bundle key packed same name mark = subst (λ k. k ≡ key_of crossing packed.parcel) same (ap₂ (λ n m. record { from = n; number = packed.parcel.number; mark = m }) name mark)
@@ -226,15 +210,15 @@ module _ (crossing : Crossing) (bundles : Bundles) (wire : Wire) (c : Covers cro
           let it = may name in
           let whole = it.0.0 in
           let front = it.0.2 in
-          let on = c.jobs whole it.0.1 (sym front.to ∙ it.1) packed (in_front bundle.jobs whole.jobs packed front.jobs inside) in
+          let on = c.jobs whole it.0.1 (sym front.to ∙ it.1) packed (in_append whole.jobs bundle.jobs front.jobs.rest packed front.jobs.is inside) in
           record {
             parcel = packed.parcel;
             there = on.0;
             key_is = agreed bundle key packed same name on.1;
             made = subst (λ j. crossing.makes packed.parcel j ≡ true) job (All-contains (λ (p : Packed). crossing.makes p.parcel (make p) ≡ true) bundle.jobs packed it.2 inside);
           }
-  from_bundle key new (settle bundle numbers, may, there) own = absurd (let same = of-one (Release bundle.from numbers) (QueueOnce key new) there in cc)
-  from_bundle key new (other command, may, there) own = absurd (subst (IsBeside crossing receiver) (of-one command (QueueOnce key new) there) may own)
+  from_bundle key new (settle bundle numbers, may, there) own = absurd (let same = in_one (Release bundle.from numbers) (QueueOnce key new) there in cc)
+  from_bundle key new (other command, may, there) own = absurd (subst (IsBeside crossing receiver) (in_one command (QueueOnce key new) there) may own)
 
   as_said : (system : List ℕ) (below : ℕ) → IsOfLine crossing bundles receiver (Forget system below) → system ≡ crossing.from → (said : ℕ) × Contains wire.said said × (below ≤ said)
   as_said system below (unpack bundle make, may, there) own = by-case (of_unpack bundle make (Forget system below) there)
@@ -249,8 +233,8 @@ module _ (crossing : Crossing) (bundles : Bundles) (wire : Wire) (c : Covers cro
           let same = front.below in
           (whole.below, c.below whole it.0.1 (sym front.to ∙ it.1), omega (arith, low, same))
       by-case (inr (packed, inside, e)) = absurd (cc)
-  as_said system below (settle bundle numbers, may, there) own = absurd (let same = of-one (Release bundle.from numbers) (Forget system below) there in cc)
-  as_said system below (other command, may, there) own = absurd (subst (IsBeside crossing receiver) (of-one command (Forget system below) there) may own)
+  as_said system below (settle bundle numbers, may, there) own = absurd (let same = in_one (Release bundle.from numbers) (Forget system below) there in cc)
+  as_said system below (other command, may, there) own = absurd (subst (IsBeside crossing receiver) (in_one command (Forget system below) there) may own)
 
   may_be_given : (site : Side) (command : Command) → IsOfLine crossing bundles site command → MayBeGiven crossing wire site command
   may_be_given sender (Done system at jobs) of = reports system at jobs of

@@ -6,6 +6,7 @@
 -- yet; and duke took half of the bundle.
 use Rattle.std.proofs.Common.{◌≡◌, ℕ, ◌≤◌, true, List, [], ◌∷◌, codes, Some, None, Contains, refl, ap, arith, ◌+◌, length, inl, inr}
 use Rattle.std.proofs.lemmas.List.Elements.{All-nil, All-cons, All-head}
+use Rattle.uu_names.proofs.Basics.{first_or_later, none_in}
 use Rattle.uu_times.specs.declared.moment.Moment.{Moment}
 use Rattle.uu_core.specs.declared.command.Command.{Command}
 use Rattle.uu_core.specs.declared.command.Command.TheVariants.{Forget, QueueOnce, Release}
@@ -25,7 +26,6 @@ use Rattle.uu_custody.specs.Events.{Side, sender, receiver, waits, no_more, has,
 use Rattle.uu_custody.specs.Carried.{Deed, runs, stops, says, events_of, IsSaidBy, unpack, settle, Bundles, nothing_said, IsOfLine, GoesByBundles}
 use Rattle.uu_custody.specs.AmongSites.{AreNamed, GoAround, GoOn, seen_by}
 use Rattle.uu_custody.proofs.Carried.{keeps_to_wire}
-use Rattle.uu_custody.proofs.Lists.{first_or_later, none_in}
 use Rattle.uu_custody.proofs.AmongSites.{goes_by_bundles}
 use Rattle.uu_custody.proofs.Examples.{letter, forwarded, mysite, duke, crossing, parcel, handing}
 

@@ -1,6 +1,7 @@
 -- What becomes of the jobs, by the law of custody.
 use Rattle.std.proofs.Common.{◌≡◌, ◌<◌, inl, inr, ℕ, Bool, true, false, cond, nat_le, List, [], ◌∷◌, ◌++◌, map, All, AllPairs, Contains, Option, Some, None, refl, sym, ap, subst, ◌∙◌, append_assoc, ◌+◌}
 use Rattle.std.proofs.lemmas.List.Elements.{Contains-append_cases}
+use Rattle.uu_names.proofs.Basics.{later_of, none_in, all_from, from_filter, from_map, all_or_one}
 use Rattle.uu_core.specs.declared.command.Command.{Command}
 use Rattle.uu_core.specs.declared.command.Command.TheVariants.{Define, Remove, Queue, QueueOnce, Kill, Regrade, Rejuvenate, Failed, Done, Release, Entry, Forget}
 use Rattle.uu_core.specs.declared.command.Reply.TheVariants.{Number, Refused}
@@ -17,7 +18,6 @@ use Rattle.uu_custody.specs.Events.{Event, sender, receiver, sessions_at, Passes
 use Rattle.uu_store.specs.Acknowledged.{WasLetGo}
 use Rattle.uu_custody.specs.Handovers.{handed_of, handed_in, Waited, IsKeptOrGone, IsInCustody, IsOfWaiting, AreOfWorld, ComeOnce, NothingIsInTheWay}
 use Rattle.uu_store.proofs.Acknowledging.{Placed}
-use Rattle.uu_custody.proofs.Lists.{later_of, none_in, all_from, from_filter, from_map, all_or_one}
 use Rattle.uu_custody.proofs.Steps.{world_on, may_first, may_second, Proceeds}
 use Rattle.uu_custody.proofs.Proceeding.{proceeds}
 
@@ -39,7 +39,7 @@ there_then crossing s (QueueOnce key new) handed there = by-name (same_text key.
     by-name : (t : Bool) → Contains (cond t (map {B = Handed} (λ job. record { number = key.number; job = job }) (added s (after s (QueueOnce key new)).0)) []) handed → Contains (after s (QueueOnce key new)).0.jobs handed.job
     by-name true there =
         let one = from_map {Y = Handed} (λ job. record { number = key.number; job = job }) (added s (after s (QueueOnce key new)).0) handed there in
-        subst (Contains (after s (QueueOnce key new)).0.jobs) (ap (λ (h : Handed). h.job) one.2) (from_filter (λ (job : Job). nat_le s.next job.number) (after s (QueueOnce key new)).0.jobs one.0 one.1)
+        subst (Contains (after s (QueueOnce key new)).0.jobs) (ap (λ (h : Handed). h.job) one.2) (from_filter (λ (job : Job). nat_le s.next job.number) (after s (QueueOnce key new)).0.jobs one.0 one.1).0
     by-name false there = absurd (none_in handed there)
 there_then crossing s (Define def) handed there = absurd (none_in handed there)
 there_then crossing s (Remove name) handed there = absurd (none_in handed there)

@@ -1,4 +1,3 @@
-pub mod Lists
 mod Sessions
 mod Steps
 mod Proceeding

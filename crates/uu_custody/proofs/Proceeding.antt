@@ -1,9 +1,10 @@
 -- A history of two sites makes steps of custody.
-use Rattle.std.proofs.Common.{◌≡◌, ◌⊎◌, ◌≤◌, inl, inr, ℕ, nat_le, Bool, true, false, not, ◌&&◌, ◌||◌, cond, List, [], ◌∷◌, ◌++◌, map, take, All, Contains, refl, sym, ap, subst, subst₂, ◌∙◌, arith}
+use Rattle.std.proofs.Common.{◌≡◌, inl, inr, ℕ, nat_le, Bool, true, false, not, ◌||◌, cond, List, [], ◌∷◌, ◌++◌, map, take, All, Contains, refl, sym, ap, subst, subst₂, ◌∙◌, arith}
 use Rattle.std.specs.Cmp.Lexicographic.{bytes_decides}
 use Rattle.std.specs.List.{list_any}
-use Rattle.std.proofs.lemmas.Bool.Decides.{nat_tests}
 use Rattle.std.proofs.lemmas.List.Elements.{All-head, All-tail, All-nil, All-weaker, Contains-append_left, Contains-append_right, Contains-append_cases, Contains-push_cases}
+use Rattle.std.proofs.lemmas.Bool.{and_from, le-leb}
+use Rattle.uu_names.proofs.Basics.{none_in, some_passes}
 use Rattle.uu_core.specs.declared.command.Command.{Command}
 use Rattle.uu_core.specs.declared.command.Command.TheVariants.{Define, Remove, Queue, QueueOnce, Kill, Regrade, Rejuvenate, Failed, Done, Release, Entry, Forget}
 use Rattle.uu_core.specs.declared.command.Reply.{Reply}
@@ -16,7 +17,6 @@ use Rattle.uu_core.specs.Laws.{numbers_in}
 use Rattle.uu_handover.specs.Custody.{Parcel, parcel_of, Crossing, key_of, World, MayRun, is_of_others, answer_to, was_said, go}
 use Rattle.uu_handover.specs.Custody.Step.{SenderRuns, SenderShows, SenderSays, ReceiverTakes, ReceiverRuns, ReceiverTells}
 use Rattle.uu_custody.specs.Events.{sender, receiver, waits, no_more, has, Event, answered, stopped, noticed, sessions_at, PassesTruly, Wire, answers_in, MayBeGiven, KeepsToWire, MayForget, ForgetsWhatWasSaid}
-use Rattle.uu_custody.proofs.Lists.{first_or_later}
 use Rattle.uu_custody.proofs.Sessions.{LastCounts, nothing, whole, first_passes, noticed_passes, last_passes}
 use Rattle.uu_custody.proofs.Steps.{Proceeds, stays, sender_runs, sender_shows, sender_says, receiver_tells, receiver_runs, receiver_takes}
 
@@ -28,9 +28,6 @@ pub record Carries (world : World) (wire : Wire) : Type 0 where
 
 abbrev with_answers : Wire → List ℕ → Wire
 with_answers wire numbers = record wire { answers = wire.answers ++ numbers }
-
-none_in : {X : Type 0} (y : X) → Contains [] y → ⊥
-none_in y h = omega (arith, h.1)
 
 fewer : (world : World) (wire : Wire) (numbers : List ℕ) → Carries world (with_answers wire numbers) → Carries world wire
 fewer world wire numbers carries = record { parcels = carries.parcels; answers = λ number there. carries.answers number (Contains-append_left wire.answers numbers number there); said = carries.said }
@@ -65,23 +62,6 @@ own_answers crossing world wire parcel reply new number carries inside = elim (C
   | inr more ↦ Contains-append_right world.answered (answer_to parcel reply) number (told_of parcel reply (same_text crossing.from crossing.from) number more)
 ]
 
-both : (one other : Bool) → one ≡ true → other ≡ true → one && other ≡ true
-both true other e f = f
-both false other e f = absurd (cc)
-
--- a test that an element passes
-passes : {X : Type 0} (p : X → Bool) (xs : List X) (x : X) → Contains xs x → p x ≡ true → list_any p xs ≡ true
-passes p [] x there e = absurd (none_in x there)
-passes p (y ∷ xs) x there e = by-test (p y) refl (first_or_later y x xs there) (λ later. passes p xs x later e)
-  where
-    by-test : (t : Bool) → p y ≡ t → (y ≡ x) ⊎ Contains xs x → (Contains xs x → list_any p xs ≡ true) → t || list_any p xs ≡ true
-    by-test true is which again = refl
-    by-test false is (inl same) again = absurd (let q : true ≡ false = sym e ∙ ap p (sym same) ∙ is in cc)
-    by-test false is (inr later) again = again later
-
-as_test : (a b : ℕ) → a ≤ b → nat_le a b ≡ true
-as_test a b l = grind (arith, nat_tests)
-
 -- what was said on the wire was said in the world
 forgets : (crossing : Crossing) (world : World) (wire : Wire) (system : List ℕ) (below : ℕ) → Carries world wire → MayForget crossing wire receiver (Forget system below) → was_said crossing world (Forget system below) ≡ true
 forgets crossing world wire system below carries may = by-name (same_text system crossing.from) refl
@@ -90,7 +70,7 @@ forgets crossing world wire system below carries may = by-name (same_text system
     by-name false e = refl
     by-name true e =
         let it = may ((bytes_decides system crossing.from).0 e) in
-        passes (λ said. nat_le below said) world.said it.0 (carries.said it.0 it.1) (as_test below it.0 it.2)
+        some_passes (λ said. nat_le below said) world.said it.0 (carries.said it.0 it.1) (le-leb below it.0 it.2)
 
 -- in any world that follows, things go on from there
 abbrev GoesOnFrom : Type 0 → Crossing → World → Wire → Command → List Command → List Command → Type 0
@@ -107,7 +87,7 @@ module _ (H : Type 0) (crossing : Crossing) (world : World) (wire : Wire) (sent 
           | inr new ↦ absurd (none_in number (subst (λ l. Contains l number) silent new))
         ];
         said = carries.said;
-      }) (λ h. both world.is_heard (was_said crossing world command) (heard h) (said h)))
+      }) (λ h. and_from world.is_heard (was_said crossing world command) (heard h) (said h)))
 
   takes : (parcel : Parcel) (new : NewJob) → Contains wire.parcels parcel → crossing.makes parcel new ≡ true → GoesOnFrom H crossing world wire (QueueOnce (key_of crossing parcel) new) sent received → Proceeds H crossing world sent (QueueOnce (key_of crossing parcel) new ∷ received)
   takes parcel new there made on =

@@ -1,6 +1,7 @@
 -- A message goes over several sites.
-use Rattle.std.proofs.Common.{◌≡◌, ◌⊎◌, ◌<◌, inl, inr, ℕ, List, [], ◌∷◌, ◌++◌, AllPairs, Contains, refl, sym, ap, subst, ◌∙◌, arith}
-use Rattle.std.proofs.lemmas.List.Elements.{All-contains, Contains-append_cases}
+use Rattle.std.proofs.Common.{◌≡◌, inl, inr, ℕ, List, [], ◌∷◌, ◌++◌, Contains, refl, sym, ap, subst, ◌∙◌}
+use Rattle.std.proofs.lemmas.List.Elements.{Contains-append_cases}
+use Rattle.uu_names.proofs.Basics.{none_in, pairs_one, one_of_number}
 use Rattle.uu_core.specs.declared.command.Command.{Command}
 use Rattle.uu_core.specs.State.{State, Job}
 use Rattle.uu_core.specs.After.{after}
@@ -9,7 +10,6 @@ use Rattle.uu_handover.specs.Custody.{Crossing, Handed, IsHandedFor, parcel_of}
 use Rattle.uu_handover.specs.Network.{Chart, IsRoute, GoesBy}
 use Rattle.uu_custody.specs.Handovers.{handed_of, handed_in, Waited, HasCome, IsInCustody}
 use Rattle.uu_custody.specs.Routes.{Course, ComeOnceOverAll, handed_over, IsOnItsWay, CameTo}
-use Rattle.uu_custody.proofs.Lists.{first_or_later, none_in, pairs_first, pairs_rest}
 use Rattle.uu_custody.proofs.Coming.{there_then}
 
 -- ---- a job that came waits from then on for the next site
@@ -59,40 +59,15 @@ on_its_way chart course (next ∷ more) line site job route once goes waited =
 
 -- ---- at most once
 
-only_one : (handed : List Handed) (one other : Handed) → AllPairs (λ (a b : Handed). ¬ (a.number ≡ b.number)) handed → Contains handed one → Contains handed other → one.number ≡ other.number → one ≡ other
-only_one [] one other apart there here same = absurd (none_in one there)
-only_one (it ∷ handed) one other apart there here same = by_places (first_or_later it one handed there) (first_or_later it other handed here) (only_one handed one other (pairs_rest R it handed apart))
-  where
-    R : Handed → Handed → Type 0
-    R a b = ¬ (a.number ≡ b.number)
-
-    by_places : (it ≡ one) ⊎ Contains handed one → (it ≡ other) ⊎ Contains handed other → (Contains handed one → Contains handed other → one.number ≡ other.number → one ≡ other) → one ≡ other
-    by_places (inl a) (inl b) again = sym a ∙ b
-    by_places (inl a) (inr b) again = absurd (All-contains (R it) handed other (pairs_first R it handed apart) b (ap (λ (h : Handed). h.number) a ∙ same))
-    by_places (inr a) (inl b) again = absurd (All-contains (R it) handed one (pairs_first R it handed apart) a (ap (λ (h : Handed). h.number) b ∙ sym same))
-    by_places (inr a) (inr b) again = again a b same
-
-only_job : (handed : List Handed) (one other : Handed) → AllPairs (λ (a b : Handed). a.job.number < b.job.number) handed → Contains handed one → Contains handed other → one.job.number ≡ other.job.number → one ≡ other
-only_job [] one other rising there here same = absurd (none_in one there)
-only_job (it ∷ handed) one other rising there here same = by_places (first_or_later it one handed there) (first_or_later it other handed here) (only_job handed one other (pairs_rest R it handed rising))
-  where
-    R : Handed → Handed → Type 0
-    R a b = a.job.number < b.job.number
-
-    by_places : (it ≡ one) ⊎ Contains handed one → (it ≡ other) ⊎ Contains handed other → (Contains handed one → Contains handed other → one.job.number ≡ other.job.number → one ≡ other) → one ≡ other
-    by_places (inl a) (inl b) again = sym a ∙ b
-    by_places (inl a) (inr b) again = absurd (let l = All-contains (R it) handed other (pairs_first R it handed rising) b in let e = ap (λ (h : Handed). h.job.number) a in omega (arith, l, e, same))
-    by_places (inr a) (inl b) again = absurd (let l = All-contains (R it) handed one (pairs_first R it handed rising) a in let e = ap (λ (h : Handed). h.job.number) b in omega (arith, l, e, same))
-    by_places (inr a) (inr b) again = again a b same
-
 pub never_twice : (chart : Chart) (course : Course) (lines : List ℕ) (job one other : Job) → ComeOnceOverAll chart course lines → CameTo chart course lines job one → CameTo chart course lines job other → one ≡ other
 never_twice chart course [] job one other once first second = sym first ∙ second
 never_twice chart course (line ∷ lines) job one other once (handed, there, is, first) (again, here, same, second) =
-    let it : handed ≡ again = only_one (handed_over chart course line) handed again once.0.never_twice there here (is ∙ sym same) in
+    let it : handed ≡ again = pairs_one (λ (a b : Handed). ¬ (a.number ≡ b.number)) (λ a b. a.number ≡ b.number) (λ a b far near. far near) (λ a b far near. far (sym near))
+        (handed_over chart course line) once.0.never_twice handed again there here (is ∙ sym same) in
     never_twice chart course lines handed.job one other once.1 first (subst (λ (h : Handed). CameTo chart course lines h.job other) (sym it) second)
 
 pub apart : (chart : Chart) (course : Course) (lines : List ℕ) (one other last same : Job) → ComeOnceOverAll chart course lines → CameTo chart course lines one last → CameTo chart course lines other same → last.number ≡ same.number → one.number ≡ other.number
 apart chart course [] one other last same once first second is = ap (λ (j : Job). j.number) first ∙ is ∙ sym (ap (λ (j : Job). j.number) second)
 apart chart course (line ∷ lines) one other last same once (handed, there, own, first) (again, here, its, second) is =
-    let it : handed ≡ again = only_job (handed_over chart course line) handed again once.0.apart there here (apart chart course lines handed.job again.job last same once.1 first second is) in
+    let it : handed ≡ again = one_of_number (λ (h : Handed). h.job.number) (handed_over chart course line) handed again once.0.apart there here (apart chart course lines handed.job again.job last same once.1 first second is) in
     sym own ∙ ap (λ (h : Handed). h.number) it ∙ its

@@ -3,6 +3,7 @@ use Rattle.std.proofs.Common.{◌≡◌, inl, inr, ℕ, Bool, true, false, cond,
 use Rattle.std.specs.Prelude.{⊤}
 use Rattle.std.specs.Cmp.Lexicographic.{bytes_decides}
 use Rattle.std.proofs.lemmas.List.Elements.{All-contains}
+use Rattle.uu_names.proofs.Basics.{first_of, later_of, first_or_later, none_in, from_map, all_from, in_map}
 use Rattle.sqlite.specs.Store.{Ghosts}
 use Rattle.sqlite.specs.Held.{state}
 use Rattle.sqlite_wal.specs.Recovery.{Image}
@@ -19,7 +20,6 @@ use Rattle.uu_custody.specs.Events.{Side, sender, receiver, is_at, Notice, waits
 use Rattle.uu_custody.specs.Spools.{WereShown, WereShownInFiles}
 use Rattle.uu_custody.specs.Carried.{Deed, runs, stops, says, notices_of, events_of, Saying, after_answer, sayings_at, IsSaidBy, WereSaid, WereSaidInFiles}
 use Rattle.uu_custody.specs.Carried.{with_first as with_first_said}
-use Rattle.uu_custody.proofs.Lists.{first_of, later_of, first_or_later, none_in, from_map, all_from}
 use Rattle.uu_custody.proofs.Spools.{good_kept, good_stored}
 
 -- ---- the notices of a bundle
@@ -104,17 +104,10 @@ module _ (crossing : Crossing) (site : Side) where
           let one = from_map (λ (n : Noted). record n { answered = command ∷ n.answered }) session.noted note there in
           let was = f.0 one.0 one.1 in (
             after_answer command was.0,
-            mapped (after_answer command) sayings was.0 was.1,
+            in_map (after_answer command) sayings was.0 was.1,
             sym (ap (λ (n : Noted). n.answered) one.2) ∙ ap (λ l. command ∷ l) was.2,
             subst (λ (n : Noted). Contains (notices_of crossing site was.0.bundle) n.notice) one.2 was.3,
           )
-        where
-          mapped : (g : Saying → Saying) (xs : List Saying) (x : Saying) → Contains xs x → Contains (map g xs) (g x)
-          mapped g [] x h = absurd (none_in x h)
-          mapped g (y ∷ xs) x h = elim (first_or_later y x xs h) [
-            | inl same ↦ subst (λ z. Contains (g y ∷ map g xs) (g z)) same (first_of (g y) (map g xs))
-            | inr behind ↦ later_of (g y) (g x) (map g xs) (mapped g xs x behind)
-          ]
 
   -- what a bundle tells may be noted, as often as you like
   module _ (bundle : Bundle) where

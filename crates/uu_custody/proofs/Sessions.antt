@@ -1,7 +1,9 @@
 -- Sessions of a site, event by event: what counts of them.
-use Rattle.std.proofs.Common.{◌≡◌, inl, inr, ℕ, suc, List, [], ◌∷◌, ◌++◌, map, length, take, refl, sym, ap, ap₂, subst, ◌∙◌, arith}
+use Rattle.std.proofs.Common.{◌≡◌, inl, inr, ℕ, List, [], ◌∷◌, ◌++◌, map, length, take, refl, sym, ap, ap₂, subst, ◌∙◌}
 use Rattle.std.proofs.Math.Seq.{take-append_seam}
 use Rattle.std.proofs.lemmas.List.Elements.{All-head, All-tail, All-nil, All-cons}
+use Rattle.std.proofs.lemmas.List.{nil_from_length}
+use Rattle.uu_store.proofs.Running.{replies_length}
 use Rattle.uu_core.specs.declared.command.Command.{Command}
 use Rattle.uu_core.specs.declared.command.Reply.{Reply}
 use Rattle.uu_core.specs.State.{State}
@@ -13,9 +15,11 @@ use Rattle.uu_custody.specs.Events.{Notice, Noted, Session, just_opened, with_fi
 
 -- ---- one exchange
 
-replies_length : (s : State) (commands : List Command) → length (replies_to s commands) ≡ length commands
-replies_length s [] = refl
-replies_length s (command ∷ commands) = ap suc (replies_length (after s command).0 commands)
+pub heads : {X : Type 0} {x y : X} {xs ys : List X} → x ∷ xs ≡ y ∷ ys → x ≡ y
+heads e = cc
+
+pub tails : {X : Type 0} {x y : X} {xs ys : List X} → x ∷ xs ≡ y ∷ ys → xs ≡ ys
+tails e = cc
 
 -- a first command that was answered counts, and the rest counts from the state after it
 record FirstCounts (exchange : Exchange) (s : State) (command : Command) (reply : Reply) (counted : List Command) : Type 0 where
@@ -43,12 +47,6 @@ first_counts command reply exchange s (given ∷ later) counts = record {
   };
 }
   where
-    heads : {X : Type 0} {x y : X} {xs ys : List X} → x ∷ xs ≡ y ∷ ys → x ≡ y
-    heads e = cc
-
-    tails : {X : Type 0} {x y : X} {xs ys : List X} → x ∷ xs ≡ y ∷ ys → xs ≡ ys
-    tails e = cc
-
     same : command ≡ given
     same = heads counts.prefix
 
@@ -80,13 +78,9 @@ first_are s here rest unanswered unheard answers is = sym (ap₂ take (sym (ap l
 
 last_counts : (in_hand : ℕ) (unanswered : List Command) (ending : Ending) (s : State) (here : List Command) → Counts (ended in_hand unanswered ending).exchange s here → LastCounts in_hand unanswered here
 last_counts in_hand unanswered ending s here counts = elim counts.whole [
-  | inl none ↦ nothing (empty here (sym (replies_length s here) ∙ ap length (counts.answers ∙ none)))
+  | inl none ↦ nothing (nil_from_length here (sym (replies_length s here) ∙ ap length (counts.answers ∙ none)))
   | inr all ↦ whole (subst (λ n. here ≡ take n unanswered) all (first_are s here counts.rest unanswered counts.unheard counts.answers counts.prefix))
 ]
-  where
-    empty : (l : List Command) → length l ≡ 0 → l ≡ []
-    empty [] e = refl
-    empty (command ∷ l) e = absurd (omega (arith, e))
 
 -- ---- the sessions of a site
 

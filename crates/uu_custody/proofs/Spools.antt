@@ -19,13 +19,7 @@ use Rattle.uu_store.specs.Files.{FileStretch, file_exchanges, last_left, KeepsTh
 use Rattle.uu_custody.specs.Events.{Event, Session, sender, receiver, sessions_at, exchanges_at, PassesTruly, nothing_sent, ForgetsWhatWasSaid}
 use Rattle.uu_custody.specs.Handovers.{ComeOnce, ToldAreInCustody, ToldUnderKeysAreInCustody, NothingIsInTheWay}
 use Rattle.uu_custody.specs.Spools.{WereShown, WereShownInFiles, HaveCome, StoreOnce, KeepOnce}
-use Rattle.uu_custody.proofs.Sessions.{exchanges_of, plainly}
-
-heads : {X : Type 0} {x y : X} {xs ys : List X} → x ∷ xs ≡ y ∷ ys → x ≡ y
-heads e = cc
-
-tails : {X : Type 0} {x y : X} {xs ys : List X} → x ∷ xs ≡ y ∷ ys → xs ≡ ys
-tails e = cc
+use Rattle.uu_custody.proofs.Sessions.{exchanges_of, plainly, heads, tails}
 
 none_more : {X : Type 0} {x : X} {xs : List X} → [] ≡ x ∷ xs → ⊥
 none_more e = cc

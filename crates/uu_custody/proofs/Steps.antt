@@ -2,6 +2,7 @@
 use Rattle.std.proofs.Common.{◌≡◌, ◌⊎◌, inl, inr, ℕ, Bool, true, false, not, cond, List, [], ◌∷◌, ◌++◌, map, Contains, Option, Some, None, refl, sym, ap, subst, ◌∙◌, append_assoc, append-nil}
 use Rattle.std.specs.Cmp.Lexicographic.{bytes_decides}
 use Rattle.std.proofs.lemmas.List.Elements.{Contains-push_cases}
+use Rattle.uu_custody.proofs.Sessions.{tails}
 use Rattle.uu_core.specs.declared.command.Command.{Command}
 use Rattle.uu_core.specs.declared.command.Command.TheVariants.{Define, Remove, Queue, QueueOnce, Kill, Regrade, Rejuvenate, Failed, Done, Release, Entry, Forget}
 use Rattle.uu_core.specs.declared.refusal.Refusal.{Refusal}
@@ -125,9 +126,6 @@ sender_runs crossing world command sent received may on = record {
   where
     heads : {x y : Command} {xs ys : List Command} → x ∷ xs ≡ y ∷ ys → y ≡ x
     heads e = cc
-
-    tails : {x y : Command} {xs ys : List Command} → x ∷ xs ≡ y ∷ ys → xs ≡ ys
-    tails e = cc
 
     at_first : (before behind : List Command) → command ∷ sent ≡ before ++ behind → (job : Job) → Contains (state_after world.sender before).jobs job → job.system ≡ crossing.to → Came crossing world (SenderRuns command ∷ on.steps) job
     at_first [] behind e job there own = record { first = []; second = SenderRuns command ∷ on.steps; steps_are = refl; there = there }

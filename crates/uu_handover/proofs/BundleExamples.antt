@@ -2,6 +2,7 @@
 -- has it. And of three letters one was taken before, one is refused, and one is new.
 use Rattle.std.proofs.Common.{◌≡◌, ℕ, ◌+◌, List, [], ◌∷◌, ◌++◌, map, Contains, codes, refl, arith}
 use Rattle.std.proofs.lemmas.List.Elements.{All-nil, All-cons}
+use Rattle.uu_names.proofs.Basics.{first_of}
 use Rattle.uu_times.specs.declared.moment.Moment.{Moment}
 use Rattle.uu_core.specs.declared.command.Command.TheVariants.{Define, Queue, QueueOnce, Release}
 use Rattle.uu_core.specs.declared.job.NewJob.{NewJob}
@@ -12,7 +13,6 @@ use Rattle.uu_core.specs.Run.{state_after}
 use Rattle.uu_handover.specs.Custody.{Parcel, parcel_of, Crossing, Step, World, world_after, start}
 use Rattle.uu_handover.specs.Custody.Step.{SenderRuns, SenderShows, ReceiverTakes, ReceiverTells}
 use Rattle.uu_handover.specs.Bundles.{Bundle, Packed, packed_of, has_of, waiting_for, unpacked, asked_of, refused_of, IsSaid, settling}
-use Rattle.uu_core.proofs.Members.{first_of}
 use Rattle.uu_handover.proofs.CustodyExamples.{letter, forwarded, mysite, duke, crossing, system}
 
 module _ (monday tuesday : Moment) where

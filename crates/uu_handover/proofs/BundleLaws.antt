@@ -1,27 +1,21 @@
 -- Custody allows what bundles say.
-use Rattle.std.proofs.Common.{◌≡◌, ℕ, ◌<◌, get_or, Bool, true, false, ◌==◌, ◌&&◌, ◌||◌, ltb, List, [], ◌∷◌, ◌++◌, length, map, filter, AllPairs, Contains, Option, refl, ap, sym, ◌∙◌, subst, arith, inl, inr}
+use Rattle.std.proofs.Common.{◌≡◌, ℕ, ◌<◌, get_or, true, ◌==◌, ◌&&◌, ◌||◌, ltb, List, [], ◌∷◌, map, filter, AllPairs, Contains, Option, refl, ap, sym, ◌∙◌, subst, arith, inl, inr}
 use Rattle.std.specs.Cmp.Lexicographic.{bytes_decides}
-use Rattle.std.proofs.lemmas.Bool.{eqb-true}
+use Rattle.std.proofs.lemmas.Bool.{eqb-true, and_from, eq-eqb}
 use Rattle.std.proofs.lemmas.Bool.Decides.{nat_tests}
-use Rattle.std.proofs.lemmas.List.{get_or-map, get_or_append_left, length-map, length-append, map-append}
-use Rattle.std.proofs.lemmas.List.Elements.{All-contains, Contains-append_left}
+use Rattle.std.proofs.lemmas.List.{get_or-map, length-map, map-append}
+use Rattle.std.proofs.lemmas.List.Elements.{All-contains}
 use Rattle.std.proofs.lemmas.List.Sorted.{Contains-permutation, IsPermutation-sym}
+use Rattle.uu_names.proofs.Basics.{first_of, later_of, first_or_later, none_in, in_filter, from_filter, in_map, from_map, some_passes, passing_one, and_first, and_second, pairs_first, pairs_rest, all_from, in_append, pairs_front}
 use Rattle.uu_core.specs.declared.custody.Taken.{Taken}
 use Rattle.uu_core.specs.declared.job.JobHead.{JobHead}
 use Rattle.uu_core.specs.State.{State, Job, same_text, link_of, head_of}
 use Rattle.uu_core.specs.Due.{goes_before}
 use Rattle.uu_handover.specs.Custody.{Parcel, parcel_of, Crossing, World, HasTaken, IsQueued}
 use Rattle.uu_handover.specs.Bundles.{Bundle, Told, told_of, Packed, packed_of, has_of, waiting_for, is_up_to, named_job, is_behind, jobs_to, IsFront, AreWaiting, AreSomeWaiting, IsSaid, is_settled, settled_of}
-use Rattle.uu_core.proofs.Members.{first_of, later_of, first_or_later, none_in, kept, from_filter, mapped, from_map, some_passes, passing_one}
-use Rattle.uu_core.proofs.WellFormedLemmas.{pairs_first, pairs_rest}
-use Rattle.uu_handover.proofs.CustodyLemmas.{all_from}
 use Rattle.uu_handover.proofs.CustodyInvariant.{Holds, IsIn, was_in}
 
 -- ---- what the bundle has was taken, and what waits is there
-
-and_first : (a b : Bool) → a && b ≡ true → a ≡ true
-and_first true b e = refl
-and_first false b e = absurd (cc)
 
 pub told_taken : (crossing : Crossing) (receiver : State) (mark : Parcel → ℕ) (bundle : Bundle) (told : Told) → IsSaid crossing.to crossing.from mark receiver bundle → Contains bundle.has told
     → (row : Taken) × Contains (link_of receiver crossing.from).taken row × (told_of row ≡ told)
@@ -53,20 +47,10 @@ is_waiting_for system lowest after state jobs job are there =
     (from_filter (λ (job : Job). is_up_to lowest job.grade && is_behind (named_job system after state) job) (waiting_for system state) job
     (Contains-permutation jobs (jobs_to system lowest after state) job (IsPermutation-sym (jobs_to system lowest after state) jobs are.these) there)).0
 
-pub in_front : {X : Type 0} (first all : List X) (x : X) → IsFront first all → Contains first x → Contains all x
-in_front first all x front there = subst (λ l. Contains l x) (sym front.is) (Contains-append_left first front.rest x there)
-
--- pairs of the first ones are pairs of all
-front_pairs : {X : Type 0} (R : X → X → Type 0) (first rest : List X) → AllPairs R (first ++ rest) → AllPairs R first
-front_pairs R first rest pairs i j d below within =
-    let more : j < length (first ++ rest) = let l = length-append first rest in omega (arith, l, within) in
-    let far = pairs i j d below more in
-    subst (λ x. R x (get_or first j d)) (get_or_append_left first rest d i (omega (arith, below, within))) (subst (R (get_or (first ++ rest) i d)) (get_or_append_left first rest d j within) far)
-
 pub front_waits : (system : List ℕ) (lowest after : Option ℕ) (state : State) (waiting first : List Job) → AreWaiting system lowest after state waiting → IsFront first waiting → AreSomeWaiting system state first
 front_waits system lowest after state waiting first are front = record {
-  there = all_from (Contains (waiting_for system state)) first (λ job there. is_waiting_for system lowest after state waiting job are (in_front first waiting job front there));
-  in_order = front_pairs (λ (a b : JobHead). goes_before a b ≡ true) (map head_of first) (map head_of front.rest) (subst (AllPairs (λ (a b : JobHead). goes_before a b ≡ true)) (ap (map head_of) front.is ∙ map-append head_of first front.rest) are.in_order);
+  there = all_from (Contains (waiting_for system state)) first (λ job there. is_waiting_for system lowest after state waiting job are (in_append waiting first front.rest job front.is there));
+  in_order = pairs_front (λ (a b : JobHead). goes_before a b ≡ true) (map head_of first) (map head_of front.rest) (subst (AllPairs (λ (a b : JobHead). goes_before a b ≡ true)) (ap (map head_of) front.is ∙ map-append head_of first front.rest) are.in_order);
 }
 
 -- ---- of a world that is reached
@@ -87,26 +71,15 @@ module _ (crossing : Crossing) (world : World) (h : Holds crossing world) (mark 
 
 -- ---- what is settled
 
-and-both : (a b : Bool) → a ≡ true → b ≡ true → a && b ≡ true
-and-both true b e f = f
-and-both false b e f = absurd (cc)
-
-and_second : (a b : Bool) → a && b ≡ true → b ≡ true
-and_second true b e = e
-and_second false b e = absurd (cc)
-
-eq_is : (a b : ℕ) → a ≡ b → a == b ≡ true
-eq_is a b e = grind (arith, nat_tests)
-
 pub settled_told : (system : List ℕ) (mark : Parcel → ℕ) (state : State) (has : List Told) (told : Told) (job : Job) → Contains has told → Contains state.jobs job → job.system ≡ system → job.number ≡ told.number → told.mark ≡ mark (parcel_of job)
     → Contains (settled_of system mark state has) job.number
 settled_told system mark state has told job there waits own number same =
     let passes = some_passes (λ (other : Job). same_text other.system system && other.number == told.number && mark (parcel_of other) == told.mark) state.jobs job waits
-    (and-both (same_text job.system system && job.number == told.number) (mark (parcel_of job) == told.mark)
-    (and-both (same_text job.system system) (job.number == told.number) ((bytes_decides job.system system).1 own) (eq_is job.number told.number number))
-    (eq_is (mark (parcel_of job)) told.mark (sym same))) in
+    (and_from (same_text job.system system && job.number == told.number) (mark (parcel_of job) == told.mark)
+    (and_from (same_text job.system system) (job.number == told.number) ((bytes_decides job.system system).1 own) (eq-eqb job.number told.number number))
+    (eq-eqb (mark (parcel_of job)) told.mark (sym same))) in
     subst (Contains (settled_of system mark state has)) (sym number)
-    (mapped (λ (t : Told). t.number) (filter (is_settled system mark state) has) told (kept (is_settled system mark state) has told there passes))
+    (in_map (λ (t : Told). t.number) (filter (is_settled system mark state) has) told (in_filter (is_settled system mark state) has told there passes))
 
 pub settled_waits : (system : List ℕ) (mark : Parcel → ℕ) (state : State) (has : List Told) (number : ℕ) → Contains (settled_of system mark state has) number
     → (told : Told) × Contains has told × (told.number ≡ number) × ((job : Job) × Contains state.jobs job × (job.system ≡ system) × (job.number ≡ number) × (mark (parcel_of job) ≡ told.mark))

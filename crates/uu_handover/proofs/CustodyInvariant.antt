@@ -6,6 +6,8 @@ use Rattle.std.proofs.lemmas.Bool.{leb-true, le-leb}
 use Rattle.std.proofs.lemmas.Bool.Decides.{nat_tests}
 use Rattle.std.proofs.lemmas.List.{append-nil}
 use Rattle.std.proofs.lemmas.List.Elements.{All-push, All-weaker, All-contains, Contains-append_left, Contains-append_right, Contains-append_cases, Contains-push_cases, filter-append}
+use Rattle.uu_names.proofs.Basics.{first_of, later_of, first_or_later, in_filter, from_filter, passing_one, filter_none, and_first, and_second, all_from}
+use Rattle.uu_core.proofs.RunLemmas.{next-after}
 use Rattle.uu_core.specs.declared.command.Command.{Command}
 use Rattle.uu_core.specs.declared.command.Reply.{Reply}
 use Rattle.uu_core.specs.declared.command.Reply.TheVariants.{Number, Refused}
@@ -18,11 +20,10 @@ use Rattle.uu_core.specs.After.{after, job_of, with_job, with_taken, forgotten, 
 use Rattle.uu_core.specs.Order.{IsInOrder}
 use Rattle.uu_handover.specs.Custody.{Parcel, parcel_of, Crossing, key_of, Handed, World, IsLeast, HasTaken, is_of_others, handed_for, added, answer_to, was_said, go, IsHandedFor}
 use Rattle.uu_handover.specs.Custody.Step.{SenderRuns, SenderShows, SenderSays, ReceiverRuns, ReceiverTells}
-use Rattle.uu_core.proofs.Members.{first_of, later_of, first_or_later, kept, from_filter, passing_one, keeps_none}
 use Rattle.uu_core.proofs.LinkLemmas.{link_own, taken_says, name_is}
 use Rattle.uu_core.proofs.WellFormedLemmas.{pairs_push}
 use Rattle.uu_core.proofs.OrderLemmas.{still_in_order}
-use Rattle.uu_handover.proofs.CustodyLemmas.{IsShown, LinkAfter, all_from, still_shown, shown_now, still_least, least_below, least_both, link_after, rises}
+use Rattle.uu_handover.proofs.CustodyLemmas.{IsShown, LinkAfter, still_shown, shown_now, still_least, least_below, least_both, link_after}
 
 -- ---- the invariant
 
@@ -65,14 +66,6 @@ pub record Holds (crossing : Crossing) (world : World) : Type 0 where
   pub answered : (number : ℕ) → Contains world.answered number → IsIn world.handed number
   pub said : All (IsLeast crossing world.sender) world.said
   pub heard : world.is_heard ≡ true → IsLeast crossing world.sender (kept_of crossing world).below
-
-and_first : (a b : Bool) → a && b ≡ true → a ≡ true
-and_first true b e = refl
-and_first false b e = absurd (cc)
-
-and_second : (a b : Bool) → a && b ≡ true → b ≡ true
-and_second true b e = e
-and_second false b e = absurd (cc)
 
 -- ---- the sender's steps
 
@@ -158,11 +151,11 @@ module _ (crossing : Crossing) (world : World) (h : Holds crossing world) where
       order = still_in_order world.receiver command h.receiver_order
 
       by-link : LinkAfter crossing.from world.receiver command (link_of (after world.receiver command).0 crossing.from) → Holds crossing (go crossing world (ReceiverRuns command))
-      by-link (inl same) = moved (after world.receiver command).0 (world.is_heard && was_said crossing world command) order (rises world.receiver command)
+      by-link (inl same) = moved (after world.receiver command).0 (world.is_heard && was_said crossing world command) order (next-after world.receiver command)
           (λ row there. subst (λ (l : Link). Contains l.taken row) same there)
           (λ it was. subst (λ (l : Link). IsRemembered l it) (sym same) was)
           (λ e. subst (λ (l : Link). IsLeast crossing world.sender l.below) (sym same) (h.heard (and_first world.is_heard (was_said crossing world command) e)))
-      by-link (inr (below, system, is, own, same)) = moved (after world.receiver command).0 (world.is_heard && was_said crossing world command) order (rises world.receiver command)
+      by-link (inr (below, system, is, own, same)) = moved (after world.receiver command).0 (world.is_heard && was_said crossing world command) order (next-after world.receiver command)
           (λ row there. (from_filter (λ (r : Taken). leb below r.number) (kept_of crossing world).taken row (subst (λ (l : Link). Contains l.taken row) same there)).0)
           (λ it was. subst (λ (l : Link). IsRemembered l it) (sym same) (less it was))
           (λ e. subst (λ (l : Link). IsLeast crossing world.sender l.below) (sym same) (least_both crossing world.sender (kept_of crossing world).below below (h.heard (and_first world.is_heard (was_said crossing world command) e)) (told (and_second world.is_heard (was_said crossing world command) e))))
@@ -172,7 +165,7 @@ module _ (crossing : Crossing) (world : World) (h : Holds crossing world) where
           less it (inr (row, there, number)) = by-test (leb below row.number) refl
             where
               by-test : (t : Bool) → leb below row.number ≡ t → IsRemembered (forgotten below (kept_of crossing world)) it
-              by-test true e = inr (row, kept (λ (r : Taken). leb below r.number) (kept_of crossing world).taken row there e, number)
+              by-test true e = inr (row, in_filter (λ (r : Taken). leb below r.number) (kept_of crossing world).taken row there e, number)
               by-test false e = inl (let l : row.number < below = grind (arith, nat_tests) in omega (arith, l, number))
 
           told : was_said crossing world command ≡ true → IsLeast crossing world.sender below
@@ -226,7 +219,7 @@ module _ (crossing : Crossing) (world : World) (h : Holds crossing world) where
 
   -- no job of a state has a number that it hasn't used
   none-added : added world.receiver world.receiver ≡ []
-  none-added = keeps_none (λ (job : Job). leb world.receiver.next job.number) world.receiver.jobs
+  none-added = filter_none (λ (job : Job). leb world.receiver.next job.number) world.receiver.jobs
       (All-weaker (λ (job : Job). job.number < world.receiver.next) (λ (job : Job). leb world.receiver.next job.number ≡ false) (λ job l. below job.number l) world.receiver.jobs h.receiver_order.below_next)
     where
       below : (n : ℕ) → n < world.receiver.next → leb world.receiver.next n ≡ false
@@ -323,8 +316,8 @@ module _ (crossing : Crossing) (world : World) (h : Holds crossing world) where
           behind = filter (λ (r : Taken). ltb row.number r.number) (kept_of crossing world).taken
 
           by-test : (s t : Bool) → ltb other.number row.number ≡ s → ltb row.number other.number ≡ t → Contains (before ++ row ∷ behind) other
-          by-test true t e f = Contains-append_left before (row ∷ behind) other (kept (λ (r : Taken). ltb r.number row.number) (kept_of crossing world).taken other there e)
-          by-test false true e f = Contains-append_right before (row ∷ behind) other (later_of row other behind (kept (λ (r : Taken). ltb row.number r.number) (kept_of crossing world).taken other there f))
+          by-test true t e f = Contains-append_left before (row ∷ behind) other (in_filter (λ (r : Taken). ltb r.number row.number) (kept_of crossing world).taken other there e)
+          by-test false true e f = Contains-append_right before (row ∷ behind) other (later_of row other behind (in_filter (λ (r : Taken). ltb row.number r.number) (kept_of crossing world).taken other there f))
           by-test false false e f = absurd (fresh other there (same other.number row.number e f))
             where
               same : (a b : ℕ) → ltb a b ≡ false → ltb b a ≡ false → a ≡ b

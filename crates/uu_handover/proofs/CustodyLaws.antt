@@ -2,9 +2,10 @@
 use Rattle.std.proofs.Common.{◌≡◌, ℕ, ◌<◌, ◌≤◌, Bool, true, false, not, cond, ltb, ◌==◌, ◌&&◌, ◌||◌, List, [], ◌∷◌, ◌++◌, map, find, length, All, AllPairs, Contains, Option, Some, None, option_map, unwrap_or, refl, ap, sym, ◌∙◌, subst, arith, inl, inr, ◌⊎◌}
 use Rattle.std.specs.List.{list_any}
 use Rattle.std.specs.Cmp.Lexicographic.{bytes_decides}
-use Rattle.std.proofs.lemmas.Bool.{eqb-true}
+use Rattle.std.proofs.lemmas.Bool.{eqb-true, eq-eqb, both_ways, and_parts, not-true, le-ltb}
 use Rattle.std.proofs.lemmas.Bool.Decides.{nat_tests}
 use Rattle.std.proofs.lemmas.List.Elements.{All-nil, All-cons, All-contains, Contains-append_left, Contains-append_right}
+use Rattle.uu_names.proofs.Basics.{first_of, none_in, first_or_later, from_filter, from_map, in_map, some_passes, passing_one, find_there, find_none, one_of_number, and_first, and_second, pairs_first, pairs_rest, all_from, cond_none}
 use Rattle.uu_times.specs.declared.moment.Moment.{Moment}
 use Rattle.uu_core.specs.declared.command.Command.{Command}
 use Rattle.uu_core.specs.declared.command.Command.TheVariants.{Define, Remove, Queue, QueueOnce, Kill, Regrade, Rejuvenate, Failed, Done, Release, Entry, Forget}
@@ -25,17 +26,12 @@ use Rattle.uu_core.specs.After.{after, after_verdict, hand_in, with_job_once, ha
 use Rattle.uu_core.specs.Laws.{IsSameJob, IsAmong, lets_go, accepted_of, unless_refused}
 use Rattle.uu_handover.specs.Custody.{Parcel, parcel_of, Crossing, key_of, World, Step, IsLeast, least_of, MayRun, MayGo, MayGoOn, kills_in, handed_for, added, answer_to, go, world_after, IsQueued, IsNotLost, IsFree, MayCross}
 use Rattle.uu_handover.specs.Custody.Step.{SenderRuns, SenderShows, SenderSays, ReceiverTakes, ReceiverRuns, ReceiverTells}
-use Rattle.uu_core.proofs.Members.{first_of, none_in, first_or_later, from_filter, from_map, mapped, some_passes, passing_one, find_there, find-none}
 use Rattle.uu_core.proofs.KeyLemmas.{by_hand_in, first_why}
-use Rattle.uu_core.proofs.WellFormedLemmas.{none_first, pairs_first, pairs_rest}
 use Rattle.uu_core.proofs.JobLemmas.{stays}
 use Rattle.uu_core.proofs.DecisionLemmas.{carried}
-use Rattle.uu_handover.proofs.CustodyLemmas.{all_from, one_of_number, same_parcel}
+use Rattle.uu_handover.proofs.CustodyLemmas.{same_parcel}
 use Rattle.uu_handover.proofs.CustodyInvariant.{Holds, kept_of, IsRemembered}
 use Rattle.uu_handover.proofs.CustodyRuns.{holds_after}
-
-apart : {t : Bool} → t ≡ true → t ≡ false → ⊥
-apart p q = cc
 
 -- ---- what was handed in is not queued again
 
@@ -55,13 +51,10 @@ unchanged crossing world parcel new h queued = by_verdict (verdict world.receive
             why : ((kept_of crossing world).below ≤ parcel.number) × (taken_of world.receiver (key_of crossing parcel) ≡ None)
             why = first_why world.receiver (key_of crossing parcel) new e first
 
-            is_it : (a b : ℕ) → a ≡ b → a == b ≡ true
-            is_it a b e = grind (arith, nat_tests)
-
             by_remembered : IsRemembered (kept_of crossing world) queued.handed → ⊥
             by_remembered (inl small) = omega (arith, small, why.0, queued.of.number)
             by_remembered (inr (row, there, same)) =
-                apart (some_passes (is_taken parcel.number) (kept_of crossing world).taken row there (is_it row.number parcel.number (same ∙ queued.of.number))) (find-none (is_taken parcel.number) (kept_of crossing world).taken why.1)
+                both_ways _ (find_none (is_taken parcel.number) (kept_of crossing world).taken why.1) (some_passes (is_taken parcel.number) (kept_of crossing world).taken row there (eq-eqb row.number parcel.number (same ∙ queued.of.number)))
 
 -- ---- nothing hinders a job that waits
 
@@ -84,12 +77,6 @@ module _ (crossing : Crossing) (world : World) (job : Job) (new : NewJob) (h : H
   low : least ≤ job.number
   low = All-contains (λ (j : Job). j.system ≡ crossing.to → (kept_of crossing world).below ≤ j.number) world.sender.jobs job (h.heard heard).now there own
 
-  not_stale : (a b : ℕ) → a ≤ b → ltb b a ≡ false
-  not_stale a b l = grind (arith, nat_tests)
-
-  is_it : (a b : ℕ) → a ≡ b → a == b ≡ true
-  is_it a b e = grind (arith, nat_tests)
-
   -- what was taken under its number has its mark
   same_mark : (row : Taken) → taken ≡ Some row → row.mark ≡ crossing.mark (parcel_of job)
   same_mark row is =
@@ -100,14 +87,14 @@ module _ (crossing : Crossing) (world : World) (job : Job) (new : NewJob) (h : H
 
   not_other : (o : Option Taken) → taken ≡ o → is_again o key ≡ false → is_other o key ≡ false
   not_other None is e = refl
-  not_other (Some row) is e = absurd (apart (is_it row.mark (crossing.mark (parcel_of job)) (same_mark row is)) e)
+  not_other (Some row) is e = absurd (both_ways _ e (eq-eqb row.mark (crossing.mark (parcel_of job)) (same_mark row is)))
 
   by_again : (s t : Bool) → is_again taken key ≡ s → is_other taken key ≡ t → IsFree crossing world job new
   by_again true t e f = inl (ap (λ s. first_reason (cond s [] (fresh_reasons known next least (is_other taken key) key new))) e)
   by_again false t e f =
       inr (ap (λ s. first_reason (cond s [] (fresh_reasons known next least (is_other taken key) key new))) e
       ∙ ap (λ s. first_reason (queue_reasons known next new ++ (ltb job.number least, Stale) ∷ (s, Differs) ∷ [])) (not_other taken refl e)
-      ∙ ap (λ s. first_reason (queue_reasons known next new ++ (s, Stale) ∷ (false, Differs) ∷ [])) (not_stale least job.number low))
+      ∙ ap (λ s. first_reason (queue_reasons known next new ++ (s, Stale) ∷ (false, Differs) ∷ [])) (le-ltb job.number least low))
 
   pub free : IsFree crossing world job new
   free = by_again (is_again taken key) (is_other taken key) refl refl
@@ -123,11 +110,11 @@ own_system state system at numbers job e there named = (bytes_decides job.system
 
     none : has_other system numbers (map head_of state.jobs) ≡ false
     none =
-        let first = none_first (ltb 256 (length numbers)) _ _ e in
-        let second = none_first (not (has_system state system)) _ _ first.1 in
-        let third = none_first (is_missing_one numbers (map head_of state.jobs)) _ _ second.1 in
-        let fourth = none_first (has_repeat numbers) _ _ third.1 in
-        (none_first (has_other system numbers (map head_of state.jobs)) _ _ fourth.1).0
+        let first = cond_none (ltb 256 (length numbers)) _ _ e in
+        let second = cond_none (not (has_system state system)) _ _ first.1 in
+        let third = cond_none (is_missing_one numbers (map head_of state.jobs)) _ _ second.1 in
+        let fourth = cond_none (has_repeat numbers) _ _ third.1 in
+        (cond_none (has_other system numbers (map head_of state.jobs)) _ _ fourth.1).0
 
     both : (a b : Bool) → a ≡ true → b ≡ false → a && not b ≡ true
     both true false p q = refl
@@ -136,17 +123,8 @@ own_system state system at numbers job e there named = (bytes_decides job.system
 
     by-test : (t : Bool) → same_text job.system system ≡ t → t ≡ true
     by-test true e = refl
-    by-test false e = absurd (apart
-        (some_passes (λ (other : JobHead). list_any (λ number. number == other.number) numbers && not (same_text other.system system)) (map head_of state.jobs) (head_of job) (mapped head_of state.jobs job there) (both (list_any (λ number. number == job.number) numbers) (same_text job.system system) named e))
-        none)
-
-both-first : (a b : Bool) → a && b ≡ true → a ≡ true
-both-first true b e = refl
-both-first false b e = absurd (cc)
-
-both_second : (a b : Bool) → a && b ≡ true → b ≡ true
-both_second true b e = e
-both_second false b e = absurd (cc)
+    by-test false e = absurd (both_ways _ none
+        (some_passes (λ (other : JobHead). list_any (λ number. number == other.number) numbers && not (same_text other.system system)) (map head_of state.jobs) (head_of job) (in_map head_of state.jobs job there) (both (list_any (λ number. number == job.number) numbers) (same_text job.system system) named e)))
 
 is_same : (a b : ℕ) → a == b ≡ true → b ≡ a
 is_same a b e = grind (arith, nat_tests)
@@ -168,8 +146,8 @@ module _ (crossing : Crossing) (world : World) (h : Holds crossing world) (job :
       let told = All-contains (Contains world.answered) numbers one.0 (may (sym mine ∙ own)) one.1 in
       inr (was_queued (subst (Contains world.answered) (eqb-true one.0 job.number one.2) told))
   gone_by (Release system numbers) may e goes =
-      let mine : job.system ≡ system = (bytes_decides job.system system).0 (both_second (is_among numbers job) (same_text job.system system) goes) in
-      let one = passing_one (λ number. number == job.number) numbers (both-first (is_among numbers job) (same_text job.system system) goes) in
+      let mine : job.system ≡ system = (bytes_decides job.system system).0 (and_second (is_among numbers job) (same_text job.system system) goes) in
+      let one = passing_one (λ number. number == job.number) numbers (and_first (is_among numbers job) (same_text job.system system) goes) in
       let told = All-contains (Contains world.answered) numbers one.0 (may (sym mine ∙ own)) one.1 in
       inr (was_queued (subst (Contains world.answered) (eqb-true one.0 job.number one.2) told))
   gone_by (Define def) may e goes = absurd (cc)
@@ -270,34 +248,23 @@ done_accepted state system job rising known there own =
     heads : List JobHead
     heads = map head_of state.jobs
 
-    itself : (n : ℕ) → n == n ≡ true
-    itself n = grind (arith, nat_tests)
-
     found : has_number (map head_of state.jobs) job.number ≡ true
-    found = some_passes (λ (head : JobHead). head.number == job.number) (map head_of state.jobs) (head_of job) (mapped head_of state.jobs job there) (itself job.number)
-
-    and-both : (a b : Bool) → a && b ≡ true → (a ≡ true) × (b ≡ true)
-    and-both true b e = (refl, e)
-    and-both false b e = absurd (cc)
+    found = some_passes (λ (head : JobHead). head.number == job.number) (map head_of state.jobs) (head_of job) (in_map head_of state.jobs job there) (eq-eqb job.number job.number refl)
 
     or_first : (a : Bool) → a || false ≡ true → a ≡ true
     or_first true e = refl
     or_first false e = absurd (cc)
-
-    turned : (t : Bool) → not t ≡ true → t ≡ false
-    turned true e = absurd (cc)
-    turned false e = refl
 
     by-test : (t : Bool) → has_other system (job.number ∷ []) (map head_of state.jobs) ≡ t → t ≡ false
     by-test false e = refl
     by-test true e =
         let one = passing_one (λ (other : JobHead). list_any (λ number. number == other.number) (job.number ∷ []) && not (same_text other.system system)) (map head_of state.jobs) e in
         let from = from_map head_of state.jobs one.0 one.1 in
-        let both = and-both (list_any (λ number. number == one.0.number) (job.number ∷ [])) (not (same_text one.0.system system)) one.2 in
+        let both = and_parts (list_any (λ number. number == one.0.number) (job.number ∷ [])) (not (same_text one.0.system system)) one.2 in
         let number : job.number ≡ one.0.number = eqb-true job.number one.0.number (or_first (job.number == one.0.number) both.0) in
-        let same : job ≡ from.0 = one_of_number state.jobs job from.0 rising there from.1 (number ∙ sym (ap (λ (head : JobHead). head.number) from.2)) in
+        let same : job ≡ from.0 = one_of_number (λ (j : Job). j.number) state.jobs job from.0 rising there from.1 (number ∙ sym (ap (λ (head : JobHead). head.number) from.2)) in
         let system_is : one.0.system ≡ system = sym (ap (λ (head : JobHead). head.system) from.2) ∙ sym (ap (λ (j : Job). j.system) same) ∙ own in
-        absurd (apart ((bytes_decides one.0.system system).1 system_is) (turned (same_text one.0.system system) both.1))
+        absurd (both_ways _ (not-true (same_text one.0.system system) both.1) ((bytes_decides one.0.system system).1 system_is))
 
 pub done_gone : (state : State) (system : List ℕ) (at : Moment) (job : Job) → verdict state (Done system at (job.number ∷ [])) ≡ None → ¬ IsAmong (after state (Done system at (job.number ∷ []))).0.jobs job
 done_gone state system at job e among =
@@ -371,7 +338,7 @@ first_least p (one ∷ jobs) job rising e other there own = by-test (p one) refl
     by-test : (t : Bool) → p one ≡ t → cond t (Some one) (find p jobs) ≡ Some job → (one ≡ other) ⊎ Contains jobs other → (find p jobs ≡ Some job → Contains jobs other → job.number ≤ other.number) → job.number ≤ other.number
     by-test true f e (inl same) again = let first : one ≡ job = cc in let a = ap (λ (j : Job). j.number) first in let b = ap (λ (j : Job). j.number) same in omega arith
     by-test true f e (inr later) again = let first : one ≡ job = cc in let a = ap (λ (j : Job). j.number) first in let l = All-contains (R one) jobs other (pairs_first R one jobs rising) later in omega arith
-    by-test false f e (inl same) again = absurd (apart (ap p same ∙ own) f)
+    by-test false f e (inl same) again = absurd (both_ways _ f (ap p same ∙ own))
     by-test false f e (inr later) again = again e later
 
 pub least_waiting : (crossing : Crossing) (sender : State) → IsInOrder sender → IsLeast crossing sender (least_of crossing sender)
@@ -380,7 +347,7 @@ least_waiting crossing sender h = by_first (find (λ (job : Job). same_text job.
     by_first : (o : Option Job) → find (λ (job : Job). same_text job.system crossing.to) sender.jobs ≡ o → IsLeast crossing sender (unwrap_or (option_map (λ (job : Job). job.number) o) sender.next)
     by_first None e = record {
       now = all_from (λ (job : Job). job.system ≡ crossing.to → sender.next ≤ job.number) sender.jobs
-          (λ job there own. absurd (apart (some_passes (λ (j : Job). same_text j.system crossing.to) sender.jobs job there ((bytes_decides job.system crossing.to).1 own)) (find-none (λ (j : Job). same_text j.system crossing.to) sender.jobs e)));
+          (λ job there own. absurd (both_ways _ (find_none (λ (j : Job). same_text j.system crossing.to) sender.jobs e) (some_passes (λ (j : Job). same_text j.system crossing.to) sender.jobs job there ((bytes_decides job.system crossing.to).1 own))));
       later = omega arith;
     }
     by_first (Some first) e = record {

@@ -1,7 +1,9 @@
 -- What always holds of two spools and a wire.
-use Rattle.std.proofs.Common.{◌≡◌, ℕ, ◌<◌, ◌≤◌, max, Bool, true, false, not, List, [], ◌∷◌, All, AllPairs, Contains, Option, Some, None, refl, ap, sym, ◌∙◌, arith, inl, inr, ◌⊎◌}
+use Rattle.std.proofs.Common.{◌≡◌, ℕ, ◌<◌, ◌≤◌, max, Bool, true, false, List, Contains, Option, Some, None, refl, ap, sym, ◌∙◌, arith, inl, inr, ◌⊎◌}
 use Rattle.std.specs.Cmp.Lexicographic.{bytes_decides}
-use Rattle.std.proofs.lemmas.List.Elements.{All-weaker, All-contains, All-contains_itself}
+use Rattle.std.proofs.lemmas.List.Elements.{All-weaker, All-contains}
+use Rattle.std.proofs.lemmas.Bool.{not-true}
+use Rattle.uu_names.proofs.Basics.{one_of_number, all_from}
 use Rattle.uu_core.specs.declared.command.Command.{Command}
 use Rattle.uu_core.specs.declared.command.Command.TheVariants.{Define, Remove, Queue, QueueOnce, Kill, Regrade, Rejuvenate, Failed, Done, Release, Entry, Forget}
 use Rattle.uu_core.specs.declared.custody.HandIn.{HandIn}
@@ -15,37 +17,9 @@ use Rattle.uu_core.specs.After.{after, after_verdict, accept, with_job, with_tak
 use Rattle.uu_core.specs.Laws.{IsSameJob, IsHandedIn}
 use Rattle.uu_core.specs.Order.{IsInOrder}
 use Rattle.uu_handover.specs.Custody.{Parcel, parcel_of, Crossing, IsLeast, is_of_others}
-use Rattle.uu_core.proofs.Members.{first_or_later, none_in}
 use Rattle.uu_core.proofs.LinkLemmas.{link_own, link_other, link_kept, forgotten_says, name_is}
-use Rattle.uu_core.proofs.WellFormedLemmas.{pairs_first, pairs_rest}
-use Rattle.uu_core.proofs.RunLemmas.{next-run}
+use Rattle.uu_core.proofs.RunLemmas.{next-after}
 use Rattle.uu_core.proofs.JobLemmas.{handed_in}
-
--- ---- small things
-
-pub all_from : {X : Type 0} (P : X → Type 0) (xs : List X) → ((x : X) → Contains xs x → P x) → All P xs
-all_from P xs f k d inside = f _ (All-contains_itself xs k d inside)
-
-pub not_true : (t : Bool) → not t ≡ true → t ≡ false
-not_true true e = absurd (cc)
-not_true false e = refl
-
--- two jobs of one number are one
-pub one_of_number : (jobs : List Job) (one other : Job) → AllPairs (λ (a b : Job). a.number < b.number) jobs → Contains jobs one → Contains jobs other → one.number ≡ other.number → one ≡ other
-one_of_number [] one other rising a b same = absurd (none_in one a)
-one_of_number (job ∷ jobs) one other rising a b same = by-place (first_or_later job one jobs a) (first_or_later job other jobs b) (one_of_number jobs one other (pairs_rest R job jobs rising))
-  where
-    R : Job → Job → Type 0
-    R first second = first.number < second.number
-
-    before : (later : Job) → Contains jobs later → job.number < later.number
-    before later there = All-contains (R job) jobs later (pairs_first R job jobs rising) there
-
-    by-place : (job ≡ one) ⊎ Contains jobs one → (job ≡ other) ⊎ Contains jobs other → (Contains jobs one → Contains jobs other → one.number ≡ other.number → one ≡ other) → one ≡ other
-    by-place (inl p) (inl q) again = sym p ∙ q
-    by-place (inl p) (inr there) again = absurd (let l = before other there in let n : job.number ≡ one.number = ap (λ (j : Job). j.number) p in omega arith)
-    by-place (inr there) (inl q) again = absurd (let l = before one there in let n : job.number ≡ other.number = ap (λ (j : Job). j.number) q in omega arith)
-    by-place (inr there) (inr where_other) again = again there where_other same
 
 -- ---- the same parcel
 
@@ -66,12 +40,9 @@ pub record IsShown (sender : State) (parcel : Parcel) : Type 0 where
 handed_number : (state : State) (command : Command) (job : Job) → IsHandedIn state command job → job.number ≡ state.next
 handed_number state command job it = ap (λ (j : Job). j.number) it.job_is
 
-pub rises : (state : State) (command : Command) → state.next ≤ (after state command).0.next
-rises state command = next-run state (command ∷ [])
-
 pub still_shown : (sender : State) (command : Command) (parcel : Parcel) → IsShown sender parcel → IsShown (after sender command).0 parcel
 still_shown sender command parcel h = record {
-  used = omega (arith, rises sender command, h.used);
+  used = omega (arith, next-after sender command, h.used);
   same = λ job there is. elim (handed_in sender command job there) [
     | inl among ↦ (sym (same_parcel job among.later among.same) ∙ h.same among.later among.there (among.same.number ∙ is))
     | inr made ↦ absurd (let n = handed_number sender command job made in let u = h.used in omega (arith, n, u, is))
@@ -81,7 +52,7 @@ still_shown sender command parcel h = record {
 pub shown_now : (sender : State) (job : Job) → IsInOrder sender → Contains sender.jobs job → IsShown sender (parcel_of job)
 shown_now sender job h there = record {
   used = All-contains (λ (j : Job). j.number < sender.next) sender.jobs job h.below_next there;
-  same = λ other inside is. ap parcel_of (one_of_number sender.jobs other job h.rising inside there is);
+  same = λ other inside is. ap parcel_of (one_of_number (λ (j : Job). j.number) sender.jobs other job h.rising inside there is);
 }
 
 -- ---- what the sender says it won't ask for
@@ -89,7 +60,7 @@ shown_now sender job h there = record {
 pub still_least : (crossing : Crossing) (sender : State) (command : Command) (below : ℕ) → IsLeast crossing sender below → IsLeast crossing (after sender command).0 below
 still_least crossing sender command below h = record {
   now = all_from (λ (job : Job). job.system ≡ crossing.to → below ≤ job.number) (after sender command).0.jobs waits;
-  later = omega (arith, rises sender command, h.later);
+  later = omega (arith, next-after sender command, h.later);
 }
   where
     waits : (job : Job) → Contains (after sender command).0.jobs job → job.system ≡ crossing.to → below ≤ job.number
@@ -138,9 +109,9 @@ link_forget crossing state system below = by-test (same_text system crossing.fro
 
 link_accept : (crossing : Crossing) (state : State) (command : Command) → is_of_others crossing command ≡ true → LinkAfter crossing.from state command (link_of (accept state command) crossing.from)
 link_accept crossing state (Define def) e = inl refl
-link_accept crossing state (Remove name) e = inl (link_kept state crossing.from name (not_true (same_text name crossing.from) e))
+link_accept crossing state (Remove name) e = inl (link_kept state crossing.from name (not-true (same_text name crossing.from) e))
 link_accept crossing state (Queue job) e = inl refl
-link_accept crossing state (QueueOnce key job) e = inl (link_once crossing state key job (hand_in state key) (not_true (same_text key.from crossing.from) e))
+link_accept crossing state (QueueOnce key job) e = inl (link_once crossing state key job (hand_in state key) (not-true (same_text key.from crossing.from) e))
 link_accept crossing state (Kill job by) e = inl refl
 link_accept crossing state (Regrade job grade by) e = inl refl
 link_accept crossing state (Rejuvenate job at by) e = inl refl

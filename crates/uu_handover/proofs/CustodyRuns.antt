@@ -1,8 +1,8 @@
 -- The invariant holds in each world that is reached.
-use Rattle.std.proofs.Common.{◌≡◌, ℕ, ◌<◌, Bool, true, false, ◌==◌, List, [], ◌∷◌, ◌++◌, map, Contains, Option, Some, None, refl, ap, sym, subst, arith}
-use Rattle.std.proofs.lemmas.Bool.{eqb-true}
-use Rattle.std.proofs.lemmas.Bool.Decides.{nat_tests}
+use Rattle.std.proofs.Common.{◌≡◌, ◌<◌, Bool, true, false, List, [], ◌∷◌, ◌++◌, map, Contains, Option, Some, None, refl, ap, sym, subst}
+use Rattle.std.proofs.lemmas.Bool.{eqb-true, eq-eqb, both_ways}
 use Rattle.std.proofs.lemmas.List.Elements.{All-nil}
+use Rattle.uu_names.proofs.Basics.{none_in, some_passes, find_there, find_none}
 use Rattle.uu_core.specs.declared.command.Command.{Command}
 use Rattle.uu_core.specs.declared.command.Command.TheVariants.{QueueOnce}
 use Rattle.uu_core.specs.declared.command.Reply.TheVariants.{Number}
@@ -19,7 +19,6 @@ use Rattle.uu_core.specs.Run.{state_after}
 use Rattle.uu_core.specs.Order.{IsInOrder}
 use Rattle.uu_handover.specs.Custody.{Parcel, Crossing, key_of, Handed, World, Step, IsLeast, MayGo, MayGoOn, handed_for, go, world_after, start, IsReached}
 use Rattle.uu_handover.specs.Custody.Step.{SenderRuns, SenderShows, SenderSays, ReceiverTakes, ReceiverRuns, ReceiverTells}
-use Rattle.uu_core.proofs.Members.{none_in, some_passes, find_there, find-none}
 use Rattle.uu_core.proofs.KeyLemmas.{by_hand_in, first_why}
 use Rattle.uu_core.proofs.WellFormedLemmas.{pairs_nil}
 use Rattle.uu_core.proofs.OrderLemmas.{still_in_order}
@@ -36,13 +35,7 @@ module _ (crossing : Crossing) (world : World) (h : Holds crossing world) (parce
   -- no row has the number of one that is not found
   fresh : taken_of world.receiver key ≡ None → (other : Taken) → Contains (kept_of crossing world).taken other → other.number ≡ parcel.number → ⊥
   fresh none other there same =
-      apart (some_passes (is_taken parcel.number) (kept_of crossing world).taken other there (is_it other.number parcel.number same)) (find-none (is_taken parcel.number) (kept_of crossing world).taken none)
-    where
-      is_it : (a b : ℕ) → a ≡ b → a == b ≡ true
-      is_it a b e = grind (arith, nat_tests)
-
-      apart : {t : Bool} → t ≡ true → t ≡ false → ⊥
-      apart p q = cc
+      both_ways _ (find_none (is_taken parcel.number) (kept_of crossing world).taken none) (some_passes (is_taken parcel.number) (kept_of crossing world).taken other there (eq-eqb other.number parcel.number same))
 
   abbrev Comes : Bool → HandIn → Type 0
   Comes again comes = is_again (taken_of world.receiver key) key ≡ again → IsInOrder (with_job_once comes key new world.receiver) → Holds crossing (answering crossing world h parcel (with_job_once comes key new world.receiver, Number (hand_in_number comes)))

@@ -1,10 +1,10 @@
 -- What is left of a bundle's jobs, once it was unpacked and answered and the answer settled.
-use Rattle.std.proofs.Common.{◌≡◌, ℕ, ◌+◌, Bool, true, false, not, cond, ltb, ◌==◌, ◌&&◌, ◌||◌, length, List, [], ◌∷◌, map, All, AllPairs, ◌<◌, Contains, Option, Some, None, refl, ap, sym, ◌∙◌, subst, arith, inl, inr}
+use Rattle.std.proofs.Common.{◌≡◌, ℕ, ◌+◌, Bool, true, false, not, cond, ltb, ◌==◌, ◌&&◌, ◌||◌, length, List, [], ◌∷◌, map, All, AllPairs, ◌<◌, Contains, Option, Some, None, refl, ap, sym, ◌∙◌, subst, inl, inr}
 use Rattle.std.specs.List.{flat_map}
 use Rattle.std.specs.Cmp.Lexicographic.{bytes_decides}
-use Rattle.std.proofs.lemmas.Bool.{eqb-true}
-use Rattle.std.proofs.lemmas.Bool.Decides.{nat_tests}
+use Rattle.std.proofs.lemmas.Bool.{eqb-true, eq-eqb, both_ways, and_from}
 use Rattle.std.proofs.lemmas.List.Elements.{Contains-append_left, Contains-append_right}
+use Rattle.uu_names.proofs.Basics.{first_of, first_or_later, none_in, in_filter, from_filter, in_map, some_passes, find_there, one_of_number, all_from}
 use Rattle.uu_core.specs.declared.command.Command.{Command}
 use Rattle.uu_core.specs.declared.command.Command.TheVariants.{QueueOnce, Forget}
 use Rattle.uu_core.specs.declared.command.Reply.TheVariants.{Number}
@@ -22,24 +22,12 @@ use Rattle.uu_core.specs.After.{after, after_verdict, hand_in, with_job_once, ha
 use Rattle.uu_core.specs.Run.{state_after}
 use Rattle.uu_handover.specs.Custody.{Parcel, parcel_of}
 use Rattle.uu_handover.specs.Bundles.{Bundle, told_of, Packed, packed_of, RefusedJob, has_of, AreWaiting, key_for, is_asked, asked_of, refused_for, settled_of, settling, IsMadeAnew, BundleExchange, IsOfJob, GoesOrIsRefused}
-use Rattle.uu_core.proofs.Members.{first_of, first_or_later, none_in, kept, from_filter, mapped, some_passes, find_there}
 use Rattle.uu_core.proofs.KeyLemmas.{by_hand_in}
 use Rattle.uu_core.proofs.KeyLaws.{found_new, found_old, key_kept}
 use Rattle.uu_core.proofs.LinkLemmas.{link_own, link_other, taken_says, name_is}
 use Rattle.uu_core.proofs.WellFormedLemmas.{once_accepted}
-use Rattle.uu_handover.proofs.CustodyLemmas.{all_from, one_of_number}
 use Rattle.uu_handover.proofs.BundleLaws.{is_waiting_for, one_waits, settled_told, settled_waits}
 use Rattle.uu_handover.proofs.SettledLaws.{gone, left_alone, named}
-
-eq_is : (a b : ℕ) → a ≡ b → a == b ≡ true
-eq_is a b e = grind (arith, nat_tests)
-
-apart : {t : Bool} → t ≡ true → t ≡ false → ⊥
-apart p q = cc
-
-both : (a b : Bool) → a ≡ true → b ≡ true → a && b ≡ true
-both true b e f = f
-both false b e f = absurd (cc)
 
 -- ---- what would be accepted was taken
 
@@ -75,7 +63,7 @@ same-number known next below row key job accepted = by-test (row.mark == key.mar
   where
     by-test : (t : Bool) → (row.mark == key.mark) ≡ t → (row.mark == key.mark) ≡ true
     by-test true e = e
-    by-test false e = absurd (let it = once_accepted known next below true key job (sym (ap (λ t. first_reason (cond t [] (fresh_reasons known next below (not t) key job))) e) ∙ accepted) in apart refl it.4)
+    by-test false e = absurd (let it = once_accepted known next below true key job (sym (ap (λ t. first_reason (cond t [] (fresh_reasons known next below (not t) key job))) e) ∙ accepted) in both_ways _ it.4 refl)
 
 -- once it was handed in, a job is sure
 sure_own : (state : State) (key : Key) (job : NewJob) → IsSure (after state (QueueOnce key job)).0 key job
@@ -84,7 +72,7 @@ sure_own state key job accepted = by_verdict (verdict state (QueueOnce key job))
     by_verdict : (v : Option Refusal) → verdict state (QueueOnce key job) ≡ v → is_again (taken_of (after state (QueueOnce key job)).0 key) key ≡ true
     by_verdict None e =
         let told : (after state (QueueOnce key job)).1 ≡ Number (hand_in_number (hand_in state key)) = ap (λ v. (after_verdict v state (QueueOnce key job)).1) e in
-        ap (λ o. is_again o key) (key_kept state key job (hand_in_number (hand_in state key)) told) ∙ eq_is key.mark key.mark refl
+        ap (λ o. is_again o key) (key_kept state key job (hand_in_number (hand_in state key)) told) ∙ eq-eqb key.mark key.mark refl
     by_verdict (Some refusal) e =
         let same : (after state (QueueOnce key job)).0 ≡ state = ap (λ v. (after_verdict v state (QueueOnce key job)).0) e in
         absurd (differ (sym e ∙ sym (ap (λ s. verdict s (QueueOnce key job)) same) ∙ accepted))
@@ -116,7 +104,7 @@ module _ (state : State) (key : Key) (job : NewJob) (sure : IsSure state key job
       let found : taken_at (with_taken row (link_of state other.from)) key.number ≡ Some row = ap (taken_at (with_taken row (link_of state other.from))) (sym same) ∙ found_new row (link_of state other.from) in
       subst (λ o. IsSureOf (are_known state key job) (state.next + 1) (link_of state other.from).below o key job) (sym found) (same-number (are_known state key job) (state.next + 1) (link_of state other.from).below row key job)
   by-number left own false e =
-      let found : taken_at (with_taken row (link_of state other.from)) key.number ≡ taken_at (link_of state other.from) key.number = found_old row (link_of state other.from) key.number (λ same. apart (eq_is other.number key.number same) e) in
+      let found : taken_at (with_taken row (link_of state other.from)) key.number ≡ taken_at (link_of state other.from) key.number = found_old row (link_of state other.from) key.number (λ same. both_ways _ e (eq-eqb other.number key.number same)) in
       subst (λ o. IsSureOf (are_known state key job) (state.next + 1) (link_of state other.from).below o key job) (sym found)
       (subst (λ n. IsSureBy (link_of state n)) (sym own) (fewer (are_known state key job) state.next (link_of state key.from).below (taken_of state key) key job left sure))
 
@@ -185,10 +173,10 @@ again_told state from jobs packed there e = by_row (taken_of state (key_for from
         let found = find_there (is_taken packed.parcel.number) (link_of state from).taken row is in
         let told : told_of row ≡ record { number = packed.parcel.number; mark = packed.mark }
         = ap (λ n. record { number = n; mark = row.mark }) (eqb-true row.number packed.parcel.number found.1) ∙ ap (λ m. record { number = packed.parcel.number; mark = m }) (eqb-true row.mark packed.mark e) in
-        let has = subst (Contains (has_of from state)) told (mapped told_of (link_of state from).taken row found.0) in
+        let has = subst (Contains (has_of from state)) told (in_map told_of (link_of state from).taken row found.0) in
         let asked = some_passes (λ (other : Packed). other.parcel.number == packed.parcel.number && other.mark == packed.mark) jobs packed there
-        (both (packed.parcel.number == packed.parcel.number) (packed.mark == packed.mark) (eq_is packed.parcel.number packed.parcel.number refl) (eq_is packed.mark packed.mark refl)) in
-        kept (is_asked jobs) (has_of from state) (record { number = packed.parcel.number; mark = packed.mark }) has asked
+        (and_from (packed.parcel.number == packed.parcel.number) (packed.mark == packed.mark) (eq-eqb packed.parcel.number packed.parcel.number refl) (eq-eqb packed.mark packed.mark refl)) in
+        in_filter (is_asked jobs) (has_of from state) (record { number = packed.parcel.number; mark = packed.mark }) has asked
 
 module _ (to : List ℕ) (mark : Parcel → ℕ) (sender : State) (bundle : Bundle) (exchange : BundleExchange bundle) where
   abbrev key : Packed → Key
@@ -222,7 +210,7 @@ module _ (to : List ℕ) (mark : Parcel → ℕ) (sender : State) (bundle : Bund
       one : (job : Job) → Contains waiting job → GoesOrIsRefused to mark sender exchange.answer job
       one job there =
           let waits = one_waits to sender job (is_waiting_for to None None sender waiting job are there) in
-          goes (packed_of mark job) job (subst (λ l. Contains l (packed_of mark job)) (sym shown) (mapped (packed_of mark) waiting job there)) waits.0 waits.1 (record { number = refl; mark_is = refl })
+          goes (packed_of mark job) job (subst (λ l. Contains l (packed_of mark job)) (sym shown) (in_map (packed_of mark) waiting job there)) waits.0 waits.1 (record { number = refl; mark_is = refl })
 
   pub was_taken : (job : Job) → AllPairs (λ (a b : Job). a.number < b.number) sender.jobs → Contains sender.jobs job → (¬ Contains (after sender (settling to mark sender exchange.answer)).0.jobs job)
       → Contains (has_of exchange.from exchange.later) (record { number = job.number; mark = mark (parcel_of job) })
@@ -235,7 +223,7 @@ module _ (to : List ℕ) (mark : Parcel → ℕ) (sender : State) (bundle : Bund
       by-test false e = absurd (went (left_alone sender to (settled_of to mark sender exchange.answer.has) job waits e))
       by-test true e =
           let it = settled_waits to mark sender exchange.answer.has job.number (named to (settled_of to mark sender exchange.answer.has) job e).0 in
-          let same : it.3.0 ≡ job = one_of_number sender.jobs it.3.0 job rising it.3.1 waits it.3.3 in
+          let same : it.3.0 ≡ job = one_of_number (λ (j : Job). j.number) sender.jobs it.3.0 job rising it.3.1 waits it.3.3 in
           let told : it.0 ≡ record { number = job.number; mark = mark (parcel_of job) } = ap (λ n. record { number = n; mark = it.0.mark }) it.2 ∙ ap (λ m. record { number = job.number; mark = m }) (sym it.3.4 ∙ ap (λ (j : Job). mark (parcel_of j)) same) in
           let asked = subst (λ l. Contains l it.0) exchange.answers.has it.1 in
           subst (Contains (has_of exchange.from exchange.later)) told (from_filter (is_asked bundle.jobs) (has_of exchange.from exchange.later) it.0 asked).0

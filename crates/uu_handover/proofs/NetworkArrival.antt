@@ -1,9 +1,10 @@
 -- A message may come to the end of its route.
 use Rattle.std.proofs.Common.{◌≡◌, ℕ, Bool, true, false, not, cond, leb, ◌==◌, List, [], ◌∷◌, ◌++◌, map, All, Contains, refl, ap, sym, ◌∙◌, subst, arith}
 use Rattle.std.specs.Cmp.Lexicographic.{bytes_decides}
-use Rattle.std.proofs.lemmas.Bool.{eqb-true}
+use Rattle.std.proofs.lemmas.Bool.{eqb-true, eq-eqb, both_ways}
 use Rattle.std.proofs.lemmas.Bool.Decides.{nat_tests}
 use Rattle.std.proofs.lemmas.List.Elements.{All-nil, All-cons, Contains-append_left, Contains-append_right}
+use Rattle.uu_names.proofs.Basics.{first_of, in_filter, in_map}
 use Rattle.uu_times.specs.declared.moment.Moment.{Moment}
 use Rattle.uu_core.specs.declared.command.Command.{Command}
 use Rattle.uu_core.specs.declared.command.Command.TheVariants.{QueueOnce, Done}
@@ -17,15 +18,11 @@ use Rattle.uu_handover.specs.Custody.{parcel_of, Crossing, key_of, Handed, World
 use Rattle.uu_handover.specs.Custody.Step.{SenderRuns, SenderShows, SenderSays, ReceiverTakes, ReceiverRuns, ReceiverTells}
 use Rattle.uu_handover.specs.Network.{Chart, Network, Move, world_of, seen_of, MayMove, move_on, network_after, IsRoute, GoesBy, ComesTo, AreNamedApart, by_line, IsWelcome, next_of, IsWelcomeOn, IsAcross, MayArrive}
 use Rattle.uu_handover.specs.Network.Move.{Runs, Shows, Takes}
-use Rattle.uu_core.proofs.Members.{first_of, kept, mapped}
 use Rattle.uu_core.proofs.JobLemmas.{queued_once}
 use Rattle.uu_core.proofs.DecisionLemmas.{carried}
 use Rattle.uu_handover.proofs.CustodyLaws.{done_accepted, done_gone}
-use Rattle.uu_handover.proofs.NetworkWorlds.{agrees, eq_self, seen_one}
-use Rattle.uu_handover.proofs.NetworkLaws.{HoldsAll, is_it, all_on}
-
-apart : {t : Bool} → t ≡ true → t ≡ false → ⊥
-apart p q = cc
+use Rattle.uu_handover.proofs.NetworkWorlds.{agrees, seen_one}
+use Rattle.uu_handover.proofs.NetworkLaws.{HoldsAll, all_on}
 
 le_self : (n : ℕ) → leb n n ≡ true
 le_self n = grind (arith, nat_tests)
@@ -69,18 +66,18 @@ module _ (chart : Chart) (far : (line : ℕ) → ¬ (chart.begins line ≡ chart
     world-three = go agreed world-two (SenderRuns report)
 
     is-one : world_of chart net-one line ≡ world-one
-    is-one = agrees chart network line (far line) (Shows line job) ∙ ap (λ (t : Bool). world_after agreed two (cond t (SenderShows job ∷ []) [])) (eq_self line)
+    is-one = agrees chart network line (far line) (Shows line job) ∙ ap (λ (t : Bool). world_after agreed two (cond t (SenderShows job ∷ []) [])) (eq-eqb line line refl)
 
     is_two : world_of chart net-two line ≡ world-two
     is_two =
         agrees chart net-one line (far line) (Takes line (parcel_of job) new)
-        ∙ ap (λ (t : Bool). world_after agreed (world_of chart net-one line) (cond t (ReceiverTakes (parcel_of job) new ∷ []) (seen_of chart line (chart.ends line) taking))) (eq_self line)
+        ∙ ap (λ (t : Bool). world_after agreed (world_of chart net-one line) (cond t (ReceiverTakes (parcel_of job) new ∷ []) (seen_of chart line (chart.ends line) taking))) (eq-eqb line line refl)
         ∙ ap (λ (w : World). go agreed w (ReceiverTakes (parcel_of job) new)) is-one
 
     is_three : world_of chart net-three line ≡ world-three
     is_three =
         agrees chart net-two line (far line) (Runs (chart.begins line) report)
-        ∙ ap (λ (t : Bool). world_after agreed (world_of chart net-two line) (cond t (SenderRuns report ∷ []) (cond (chart.ends line == chart.begins line) (ReceiverRuns report ∷ []) []))) (eq_self (chart.begins line))
+        ∙ ap (λ (t : Bool). world_after agreed (world_of chart net-two line) (cond t (SenderRuns report ∷ []) (cond (chart.ends line == chart.begins line) (ReceiverRuns report ∷ []) []))) (eq-eqb (chart.begins line) (chart.begins line) refl)
         ∙ ap (λ (w : World). go agreed w (SenderRuns report)) is_two
 
     may_show : MayMove chart network (Shows line job)
@@ -98,7 +95,7 @@ module _ (chart : Chart) (far : (line : ℕ) → ¬ (chart.begins line ≡ chart
       where
         others : (t : Bool) → line == other ≡ false → chart.ends other == chart.ends line ≡ true → same_text (chart.crossing line).from (chart.crossing other).from ≡ t → not t ≡ true
         others false e f g = refl
-        others true e f g = absurd (apart (is_it line other (named.from line other (sym (eqb-true (chart.ends other) (chart.ends line) f)) ((bytes_decides (chart.crossing line).from (chart.crossing other).from).0 g))) e)
+        others true e f g = absurd (both_ways _ e (eq-eqb line other (named.from line other (sym (eqb-true (chart.ends other) (chart.ends line) f)) ((bytes_decides (chart.crossing line).from (chart.crossing other).from).0 g))))
 
         by_ends : (s t : Bool) → line == other ≡ false → chart.ends other == chart.ends line ≡ t → MayGoOn (chart.crossing other) (world_of chart net-one other) (cond s (SenderRuns taking ∷ []) (cond t (ReceiverRuns taking ∷ []) []))
         by_ends true t e f = (tt, tt)
@@ -134,8 +131,8 @@ module _ (chart : Chart) (far : (line : ℕ) → ¬ (chart.begins line ≡ chart
     handed_on =
         subst (λ (w : World). Contains w.handed (handed_for (parcel_of job) last)) (sym is_three)
         (Contains-append_right two.handed (map (handed_for (parcel_of job)) (added two.receiver (after two.receiver taking).0)) (handed_for (parcel_of job) last)
-        (mapped (handed_for (parcel_of job)) (added two.receiver (after two.receiver taking).0) last
-        (kept (λ (j : Job). leb two.receiver.next j.number) (after two.receiver taking).0.jobs last in-after (le_self two.receiver.next))))
+        (in_map (handed_for (parcel_of job)) (added two.receiver (after two.receiver taking).0) last
+        (in_filter (λ (j : Job). leb two.receiver.next j.number) (after two.receiver taking).0.jobs last in-after (le_self two.receiver.next))))
 
     pub across : IsAcross chart network (by_line chart line job new at) line job last
     across = record {

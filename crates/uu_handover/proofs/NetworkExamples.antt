@@ -1,6 +1,7 @@
 -- A letter that crosses three sites, as computed: mysite hands it on to duke, and duke to unc.
 use Rattle.std.proofs.Common.{◌≡◌, ℕ, zero, suc, ◌+◌, Bool, true, false, cond, ◌==◌, ◌&&◌, List, [], ◌∷◌, ◌++◌, length, codes, refl, arith}
 use Rattle.std.specs.Cmp.Lexicographic.{bytes_decides}
+use Rattle.uu_names.proofs.Basics.{first_of, and_first}
 use Rattle.uu_times.specs.declared.moment.Moment.{Moment}
 use Rattle.uu_times.specs.System.{System}
 use Rattle.uu_core.specs.declared.command.Command.{Command}
@@ -13,7 +14,6 @@ use Rattle.uu_handover.specs.Custody.{Crossing, World, MayGoOn, MayRun, is_of_ot
 use Rattle.uu_handover.specs.Custody.Step.{SenderRuns, ReceiverRuns}
 use Rattle.uu_handover.specs.Network.{Chart, Network, Move, MayMove, world_of, network_after, opened, IsReachedNetwork, GoesBy, AreNamedApart, by_line, MayArrive}
 use Rattle.uu_handover.specs.Network.Move.{Runs}
-use Rattle.uu_core.proofs.Members.{first_of}
 use Rattle.uu_core.proofs.WellFormedLemmas.{still_empty}
 use Rattle.uu_handover.proofs.NetworkLaws.{holds_all}
 use Rattle.uu_handover.proofs.NetworkArrival.{arrives}
@@ -97,10 +97,6 @@ module _ (monday : Moment) where
 
   it_waits : (before.site 0).jobs ≡ job_of 1 at-mysite ∷ []
   it_waits = refl
-
-  and_first : (a b : Bool) → a && b ≡ true → a ≡ true
-  and_first true b e = refl
-  and_first false b e = absurd (cc)
 
   it_goes_on : GoesBy chart (0 ∷ 1 ∷ []) (job_of 1 at-mysite)
   it_goes_on = (refl, λ number new made. ((bytes_decides new.system (codes "unc")).0 (and_first (same_text new.system (codes "unc")) (same_text new.bytes (codes "Hello")) made), λ number new made. tt))

@@ -1,8 +1,9 @@
 -- A job that was killed waits no more.
-use Rattle.std.proofs.Common.{◌≡◌, ℕ, ◌<◌, Bool, true, false, not, ◌==◌, List, [], ◌∷◌, Contains, Option, Some, None, option_map, refl, ap, sym, ◌∙◌, subst, arith, inl, inr}
-use Rattle.std.proofs.lemmas.Bool.{eqb-true}
-use Rattle.std.proofs.lemmas.Bool.Decides.{nat_tests}
+use Rattle.std.proofs.Common.{◌≡◌, ℕ, ◌<◌, not, List, [], ◌∷◌, Contains, Option, Some, None, option_map, refl, ap, sym, ◌∙◌, subst, arith, inl, inr}
+use Rattle.std.proofs.lemmas.Bool.{eqb-true, eq-eqb, both_ways, not-true}
 use Rattle.std.proofs.lemmas.List.Elements.{All-contains, Contains-append_cases}
+use Rattle.uu_names.proofs.Basics.{none_in, first_or_later, from_filter, find_there}
+use Rattle.uu_core.proofs.RunLemmas.{next-after}
 use Rattle.uu_core.specs.declared.command.Command.{Command}
 use Rattle.uu_core.specs.declared.command.Command.TheVariants.{Define, Remove, Queue, QueueOnce, Kill, Regrade, Rejuvenate, Failed, Done, Release, Entry, Forget}
 use Rattle.uu_core.specs.declared.job.By.{By}
@@ -15,9 +16,7 @@ use Rattle.uu_core.specs.Order.{IsInOrder}
 use Rattle.uu_core.specs.Laws.{IsAmong, unless_refused}
 use Rattle.uu_handover.specs.Custody.{Crossing, World, Step, MayGoOn, kills_in, go, world_after, IsReached, start}
 use Rattle.uu_handover.specs.Custody.Step.{SenderRuns, SenderShows, SenderSays, ReceiverTakes, ReceiverRuns, ReceiverTells}
-use Rattle.uu_core.proofs.Members.{none_in, first_or_later, from_filter, find_there}
 use Rattle.uu_core.proofs.JobLemmas.{handed_in}
-use Rattle.uu_handover.proofs.CustodyLemmas.{rises}
 use Rattle.uu_handover.proofs.CustodyInvariant.{Holds}
 use Rattle.uu_handover.proofs.CustodyRuns.{holds, holds_after}
 
@@ -28,25 +27,18 @@ pub record IsGone (state : State) (number : ℕ) : Type 0 where
 
 still_gone : (state : State) (command : Command) (number : ℕ) → IsGone state number → IsGone (after state command).0 number
 still_gone state command number g = record {
-  used = omega (arith, g.used, rises state command);
+  used = omega (arith, g.used, next-after state command);
   none = λ job there same. elim (handed_in state command job there) [
     | inl among ↦ g.none among.later among.there (among.same.number ∙ same)
     | inr made ↦ (let n = ap (λ (j : Job). j.number) made.job_is in let u = g.used in omega (arith, n, u, same))
   ];
 }
 
-apart : {t : Bool} → t ≡ true → not t ≡ true → ⊥
-apart {t = true} p q = cc
-apart {t = false} p q = cc
-
-is_it : (a b : ℕ) → a ≡ b → a == b ≡ true
-is_it a b e = grind (arith, nat_tests)
-
 module _ (state : State) (order : IsInOrder state) where
   kill_gone : (number : ℕ) (by : By) → verdict state (Kill number by) ≡ None → IsGone (after_verdict None state (Kill number by)).0 number
   kill_gone number by e = record {
     used = by_found (job_at state number) refl e;
-    none = λ job there same. apart (is_it job.number number same) (from_filter (λ (other : Job). not (is_job number other)) state.jobs job there).1;
+    none = λ job there same. both_ways _ (not-true (is_job number job) (from_filter (λ (other : Job). not (is_job number other)) state.jobs job there).1) (eq-eqb job.number number same);
   }
     where
       by_found : (o : Option Job) → job_at state number ≡ o → first_reason (job_reasons (option_map head_of o) by) ≡ None → number < state.next

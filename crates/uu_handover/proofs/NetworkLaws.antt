@@ -1,42 +1,18 @@
 -- What becomes of a message that crosses several sites.
-use Rattle.std.proofs.Common.{◌≡◌, ℕ, ◌<◌, Bool, true, false, ◌==◌, List, [], ◌∷◌, ◌++◌, AllPairs, Contains, refl, ap, sym, ◌∙◌, subst, arith, inl, inr, ◌⊎◌}
+use Rattle.std.proofs.Common.{◌≡◌, ℕ, ◌<◌, Bool, true, false, ◌==◌, List, [], ◌∷◌, ◌++◌, Contains, refl, ap, sym, ◌∙◌, subst, arith, inl, inr, ◌⊎◌}
 use Rattle.std.specs.List.{list_any}
-use Rattle.std.proofs.lemmas.Bool.{eqb-true}
-use Rattle.std.proofs.lemmas.Bool.Decides.{nat_tests}
-use Rattle.std.proofs.lemmas.List.Elements.{All-contains, Contains-push_cases}
+use Rattle.std.proofs.lemmas.Bool.{eqb-true, eq-eqb, both_ways}
+use Rattle.std.proofs.lemmas.List.Elements.{Contains-push_cases}
+use Rattle.uu_names.proofs.Basics.{none_in, some_passes, passing_one, pairs_one}
 use Rattle.uu_core.specs.State.{Job}
 use Rattle.uu_handover.specs.Custody.{Parcel, parcel_of, Crossing, Handed, World, Step, MayGo, MayGoOn, go, world_after, start, IsHandedFor, IsNotLost}
 use Rattle.uu_handover.specs.Custody.Step.{SenderRuns, SenderShows, SenderSays, ReceiverTakes, ReceiverRuns, ReceiverTells}
 use Rattle.uu_handover.specs.Network.{Chart, Network, Move, world_of, seen, MayMove, move_on, network_after, MayMoveOn, opened, IsReachedNetwork, IsRoute, GoesBy, ComesTo, IsMadeOf, IsFurthest, HasPlaceOnTheWay}
-use Rattle.uu_core.proofs.Members.{none_in, first_or_later, some_passes, passing_one}
-use Rattle.uu_core.proofs.WellFormedLemmas.{pairs_first, pairs_rest}
 use Rattle.uu_handover.proofs.CustodyLemmas.{IsShown, still_shown, shown_now}
 use Rattle.uu_handover.proofs.CustodyInvariant.{Holds}
 use Rattle.uu_handover.proofs.CustodyRuns.{holds, holds_on}
 use Rattle.uu_handover.proofs.CustodyLaws.{accounted}
 use Rattle.uu_handover.proofs.NetworkWorlds.{agrees, newly_there}
-
--- ---- small things
-
-apart : {t : Bool} → t ≡ true → t ≡ false → ⊥
-apart p q = cc
-
-pub is_it : (a b : ℕ) → a ≡ b → a == b ≡ true
-is_it a b e = grind (arith, nat_tests)
-
--- of two elements that no pair may be there is one
-pairs_one : {X : Type 0} (R P : X → X → Type 0) → ((x y : X) → R x y → P x y → ⊥) → ((x y : X) → R x y → P y x → ⊥) → (xs : List X) → AllPairs R xs → (a b : X) → Contains xs a → Contains xs b → P a b → a ≡ b
-pairs_one R P one other [] pairs a b at_a at_b same = absurd (none_in a at_a)
-pairs_one R P one other (x ∷ xs) pairs a b at_a at_b same = by-place (first_or_later x a xs at_a) (first_or_later x b xs at_b) (λ l m. pairs_one R P one other xs (pairs_rest R x xs pairs) a b l m same)
-  where
-    before : (y : _) → Contains xs y → R x y
-    before y there = All-contains (R x) xs y (pairs_first R x xs pairs) there
-
-    by-place : (x ≡ a) ⊎ Contains xs a → (x ≡ b) ⊎ Contains xs b → (Contains xs a → Contains xs b → a ≡ b) → a ≡ b
-    by-place (inl p) (inl q) again = sym p ∙ q
-    by-place (inl p) (inr m) again = absurd (one x b (before b m) (subst (λ y. P y b) (sym p) same))
-    by-place (inr l) (inl q) again = absurd (other x a (before a l) (subst (λ y. P a y) (sym q) same))
-    by-place (inr l) (inr m) again = again l m
 
 -- ---- a job that a line's sender has, or had
 
@@ -191,7 +167,7 @@ module _ (chart : Chart) (network : Network) (h : HoldsAll chart network) where
     where
       by-test : (t : Bool) → list_any (λ (it : Handed). it.number == number) all ≡ t → ((it : Handed) × Contains all it × (it.number ≡ number)) ⊎ ((it : Handed) → Contains all it → ¬ (it.number ≡ number))
       by-test true e = let one = passing_one (λ (it : Handed). it.number == number) all e in inl (one.0, one.1, eqb-true one.0.number number one.2)
-      by-test false e = inr (λ it there same. apart (some_passes (λ (other : Handed). other.number == number) all it there (is_it it.number number same)) e)
+      by-test false e = inr (λ it there same. both_ways _ e (some_passes (λ (other : Handed). other.number == number) all it there (eq-eqb it.number number same)))
 
   pub stands : (site : ℕ) (lines : List ℕ) (job : Job) → IsRoute chart site lines → FollowsFrom chart network site job → GoesBy chart lines job → HasPlaceOnTheWay chart network lines job
   stands site [] job route f goes = record { crossed = []; ahead = []; lines_are = refl; last = job; comes = refl; rests = tt }

@@ -3,6 +3,8 @@
 use Rattle.std.proofs.Common.{◌≡◌, ℕ, ◌<◌, ◌≤◌, Bool, true, false, cond, leb, ◌==◌, List, [], ◌∷◌, ◌++◌, Contains, refl, ap, sym, ◌∙◌, subst, arith, inl, inr, ◌⊎◌}
 use Rattle.std.proofs.lemmas.Bool.{eqb-true, leb-true}
 use Rattle.std.proofs.lemmas.List.Elements.{All-contains, Contains-append_cases, Contains-push_cases}
+use Rattle.uu_names.proofs.Basics.{none_in, from_filter, from_map, one_of_number}
+use Rattle.uu_core.proofs.RunLemmas.{next-after}
 use Rattle.uu_core.specs.declared.command.Command.{Command}
 use Rattle.uu_core.specs.declared.command.Command.TheVariants.{QueueOnce}
 use Rattle.uu_core.specs.State.{State, Job}
@@ -11,9 +13,7 @@ use Rattle.uu_handover.specs.Custody.{Parcel, parcel_of, Crossing, key_of, Hande
 use Rattle.uu_handover.specs.Custody.Step.{SenderRuns, SenderShows, SenderSays, ReceiverTakes, ReceiverRuns, ReceiverTells}
 use Rattle.uu_handover.specs.Network.{Chart, Network, Move, world_of, seen_of, seen, MayMove, move_on, network_after, MayMoveOn, opened, IsReachedNetwork, IsRoute, ComesTo, AreNamedApart}
 use Rattle.uu_handover.specs.Network.Move.{Runs, Shows, Says, Takes, Tells}
-use Rattle.uu_core.proofs.Members.{none_in, from_filter, from_map}
 use Rattle.uu_core.proofs.JobLemmas.{handed_in}
-use Rattle.uu_handover.proofs.CustodyLemmas.{one_of_number, rises}
 use Rattle.uu_handover.proofs.CustodyInvariant.{Holds}
 use Rattle.uu_handover.proofs.CustodyRuns.{holds_after}
 use Rattle.uu_handover.proofs.NetworkWorlds.{agrees, seen_one}
@@ -27,7 +27,7 @@ pub record IsFor (state : State) (to : List ℕ) (parcel : Parcel) : Type 0 wher
 
 still_for : (state : State) (to : List ℕ) (command : Command) (parcel : Parcel) → IsFor state to parcel → IsFor (after state command).0 to parcel
 still_for state to command parcel f = record {
-  used = omega (arith, f.used, rises state command);
+  used = omega (arith, f.used, next-after state command);
   for = λ job there is. elim (handed_in state command job there) [
     | inl among ↦ (sym among.same.system ∙ f.for among.later among.there (among.same.number ∙ is))
     | inr made ↦ absurd (let n = ap (λ (j : Job). j.number) made.job_is in let u = f.used in omega (arith, n, u, is))
@@ -43,7 +43,7 @@ for_step crossing world (SenderShows job) h may f parcel there = elim (Contains-
   | inl before ↦ f parcel before
   | inr same ↦ subst (IsFor world.sender crossing.to) same (record {
     used = All-contains (λ (j : Job). j.number < world.sender.next) world.sender.jobs job h.sender_order.below_next may.0;
-    for = λ other inside is. ap (λ (j : Job). j.system) (one_of_number world.sender.jobs other job h.sender_order.rising inside may.0 is) ∙ may.1;
+    for = λ other inside is. ap (λ (j : Job). j.system) (one_of_number (λ (j : Job). j.number) world.sender.jobs other job h.sender_order.rising inside may.0 is) ∙ may.1;
   })
 ]
 for_step crossing world (SenderSays below) h may f parcel there = f parcel there
@@ -158,7 +158,7 @@ module _ (chart : Chart) (far : (line : ℕ) → ¬ (chart.begins line ≡ chart
         → (chart.crossing line).to ≡ (chart.crossing next).to
     both_now line next joint one other (job, there, own, is) (also, where_also, own_also, is_also) same =
         sym own
-        ∙ ap (λ (j : Job). j.system) (one_of_number (network.site (chart.begins next)).jobs job also (h.each next).sender_order.rising (subst (λ (s : ℕ). Contains (network.site s).jobs job) joint there) where_also
+        ∙ ap (λ (j : Job). j.system) (one_of_number (λ (j : Job). j.number) (network.site (chart.begins next)).jobs job also (h.each next).sender_order.rising (subst (λ (s : ℕ). Contains (network.site s).jobs job) joint there) where_also
         (ap (λ (p : Parcel). p.number) is ∙ same ∙ sym (ap (λ (p : Parcel). p.number) is_also)))
         ∙ own_also
 

@@ -1,8 +1,8 @@
 -- Each line of a network sees a world of two spools.
-use Rattle.std.proofs.Common.{◌≡◌, ℕ, Bool, true, false, cond, ◌==◌, List, [], ◌∷◌, ◌++◌, Contains, refl, ap, sym, ◌∙◌, subst, arith, inl, inr, ◌⊎◌}
-use Rattle.std.proofs.lemmas.Bool.{eqb-true}
-use Rattle.std.proofs.lemmas.Bool.Decides.{nat_tests}
+use Rattle.std.proofs.Common.{◌≡◌, ℕ, Bool, true, false, cond, ◌==◌, List, [], ◌∷◌, ◌++◌, Contains, refl, ap, sym, ◌∙◌, subst, inl, inr, ◌⊎◌}
+use Rattle.std.proofs.lemmas.Bool.{eqb-true, eq-eqb, both_ways}
 use Rattle.std.proofs.lemmas.List.Elements.{Contains-append_cases}
+use Rattle.uu_names.proofs.Basics.{from_filter, from_map, not_both_equal}
 use Rattle.uu_core.specs.declared.command.Command.{Command}
 use Rattle.uu_core.specs.declared.command.Command.TheVariants.{QueueOnce}
 use Rattle.uu_core.specs.declared.job.NewJob.{NewJob}
@@ -12,16 +12,6 @@ use Rattle.uu_handover.specs.Custody.{Parcel, Crossing, key_of, Handed, World, S
 use Rattle.uu_handover.specs.Custody.Step.{SenderRuns, SenderShows, SenderSays, ReceiverTakes, ReceiverRuns, ReceiverTells}
 use Rattle.uu_handover.specs.Network.{Chart, Network, Move, world_of, seen_of, seen, run_at, move_on, network_after, MayMoveOn, opened, IsReachedNetwork}
 use Rattle.uu_handover.specs.Network.Move.{Runs, Shows, Says, Takes, Tells}
-use Rattle.uu_core.proofs.Members.{from_filter, from_map}
-
-apart_tests : {t : Bool} → t ≡ true → t ≡ false → ⊥
-apart_tests p q = cc
-
-eq_of : (a b : ℕ) → a == b ≡ true → a ≡ b
-eq_of a b e = grind (arith, nat_tests)
-
-pub eq_self : (a : ℕ) → a == a ≡ true
-eq_self a = grind (arith, nat_tests)
 
 -- ---- what a line sees of a move is one step at most
 
@@ -71,11 +61,8 @@ module _ (chart : Chart) (network : Network) (line : ℕ) (apart : ¬ (chart.beg
   abbrev Agrees : Move → Type 0
   Agrees move = world_of chart (move_on chart network move) line ≡ world_after (chart.crossing line) (world_of chart network line) (seen chart line move)
 
-  not-both : (site : ℕ) → chart.begins line == site ≡ true → chart.ends line == site ≡ true → ⊥
-  not-both site e f = apart (eq_of (chart.begins line) site e ∙ sym (eq_of (chart.ends line) site f))
-
   agree_runs : (site : ℕ) (command : Command) → Agrees (Runs site command)
-  agree_runs site command = seen_command agreed two command (chart.begins line == site) (chart.ends line == site) (not-both site)
+  agree_runs site command = seen_command agreed two command (chart.begins line == site) (chart.ends line == site) (not_both_equal (chart.begins line) (chart.ends line) site apart)
 
   agree_shows : (other : ℕ) (job : Job) → Agrees (Shows other job)
   agree_shows other job = by-test (other == line)
@@ -105,12 +92,12 @@ module _ (chart : Chart) (network : Network) (line : ℕ) (apart : ¬ (chart.beg
     -- the line's own taking
     mine : (s t : Bool) → s ≡ false → t ≡ true
         → with_sites two (cond s (after two.sender (taking line)).0 two.sender) (cond t (after two.receiver (taking line)).0 two.receiver) (world_after agreed two (ReceiverTakes parcel new ∷ [])) ≡ world_after agreed two (ReceiverTakes parcel new ∷ [])
-    mine true t e f = absurd (apart_tests refl e)
-    mine false false e f = absurd (apart_tests f refl)
+    mine true t e f = absurd (both_ways _ e refl)
+    mine false false e f = absurd (both_ways _ refl f)
     mine false true e f = refl
 
     no_begin : (t : Bool) → chart.begins line == chart.ends line ≡ t → t ≡ false
-    no_begin true e = absurd (apart (eq_of (chart.begins line) (chart.ends line) e))
+    no_begin true e = absurd (apart (eqb-true (chart.begins line) (chart.ends line) e))
     no_begin false e = refl
 
     abbrev Sees : List Step → Type 0
@@ -118,12 +105,12 @@ module _ (chart : Chart) (network : Network) (line : ℕ) (apart : ¬ (chart.beg
         with_sites two (run_at network (chart.ends other) (taking other) (chart.begins line)) (run_at network (chart.ends other) (taking other) (chart.ends line)) (world_after agreed two steps) ≡ world_after agreed two steps
 
     by_other : (t : Bool) → other == line ≡ t → Sees (cond t (ReceiverTakes parcel new ∷ []) (seen_of chart line (chart.ends other) (taking other)))
-    by_other false e = seen_command agreed two (taking other) (chart.begins line == chart.ends other) (chart.ends line == chart.ends other) (not-both (chart.ends other))
+    by_other false e = seen_command agreed two (taking other) (chart.begins line == chart.ends other) (chart.ends line == chart.ends other) (not_both_equal (chart.begins line) (chart.ends line) (chart.ends other) apart)
     by_other true e =
         subst
         (λ (o : ℕ). with_sites two (run_at network (chart.ends o) (taking o) (chart.begins line)) (run_at network (chart.ends o) (taking o) (chart.ends line)) (world_after agreed two (ReceiverTakes parcel new ∷ [])) ≡ world_after agreed two (ReceiverTakes parcel new ∷ []))
         (sym (eqb-true other line e))
-        (mine (chart.begins line == chart.ends line) (chart.ends line == chart.ends line) (no_begin (chart.begins line == chart.ends line) refl) (eq_self (chart.ends line)))
+        (mine (chart.begins line == chart.ends line) (chart.ends line == chart.ends line) (no_begin (chart.begins line == chart.ends line) refl) (eq-eqb (chart.ends line) (chart.ends line) refl))
 
     agree_takes : Agrees (Takes other parcel new)
     agree_takes = by_other (other == line) refl

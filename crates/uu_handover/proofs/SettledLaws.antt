@@ -1,41 +1,20 @@
 -- What is settled goes, and nothing else.
-use Rattle.std.proofs.Common.{◌≡◌, ℕ, Bool, true, false, not, ◌==◌, ◌&&◌, List, Contains, ap, refl, subst, inl, inr, ◌⊎◌, All, arith}
+use Rattle.std.proofs.Common.{◌≡◌, ℕ, Bool, true, false, not, ◌==◌, List, Contains, ap, refl, subst, inl, inr, ◌⊎◌, All}
 use Rattle.std.specs.Cmp.Lexicographic.{bytes_decides}
-use Rattle.std.proofs.lemmas.Bool.{eqb-true}
-use Rattle.std.proofs.lemmas.Bool.Decides.{nat_tests}
+use Rattle.std.proofs.lemmas.Bool.{eqb-true, eq-eqb, both_ways, not-true, and_from}
 use Rattle.std.proofs.lemmas.List.Elements.{All-contains}
+use Rattle.uu_names.proofs.Basics.{in_filter, from_filter, some_passes, passing_one, and_first, and_second, all_from}
 use Rattle.uu_core.specs.declared.command.Command.TheVariants.{Release}
 use Rattle.uu_core.specs.State.{State, Job, same_text}
 use Rattle.uu_core.specs.After.{after, is_among, is_released}
 use Rattle.uu_handover.specs.Custody.{Parcel}
 use Rattle.uu_handover.specs.Bundles.{Told, settled_of}
-use Rattle.uu_core.proofs.Members.{kept, from_filter, some_passes, passing_one}
-use Rattle.uu_handover.proofs.CustodyLemmas.{all_from}
 use Rattle.uu_handover.proofs.BundleLaws.{settled_waits}
-
-eq_is : (a b : ℕ) → a ≡ b → a == b ≡ true
-eq_is a b e = grind (arith, nat_tests)
-
-apart : {t : Bool} → t ≡ true → not t ≡ true → ⊥
-apart {t = true} p q = cc
-apart {t = false} p q = cc
-
-both : (a b : Bool) → a ≡ true → b ≡ true → a && b ≡ true
-both true b e f = f
-both false b e f = absurd (cc)
-
-and_first : (a b : Bool) → a && b ≡ true → a ≡ true
-and_first true b e = refl
-and_first false b e = absurd (cc)
-
-and_second : (a b : Bool) → a && b ≡ true → b ≡ true
-and_second true b e = e
-and_second false b e = absurd (cc)
 
 -- a job that waits for the system and is named is let go
 pub goes : (system numbers : List ℕ) (job : Job) → Contains numbers job.number → job.system ≡ system → is_released system numbers job ≡ true
 goes system numbers job named own =
-    both (is_among numbers job) (same_text job.system system) (some_passes (λ number. number == job.number) numbers job.number named (eq_is job.number job.number refl)) ((bytes_decides job.system system).1 own)
+    and_from (is_among numbers job) (same_text job.system system) (some_passes (λ number. number == job.number) numbers job.number named (eq-eqb job.number job.number refl)) ((bytes_decides job.system system).1 own)
 
 -- and no other is
 pub named : (system numbers : List ℕ) (job : Job) → is_released system numbers job ≡ true → Contains numbers job.number × (job.system ≡ system)
@@ -44,11 +23,11 @@ named system numbers job e =
     (subst (Contains numbers) (eqb-true one.0 job.number one.2) one.1, (bytes_decides job.system system).0 (and_second (is_among numbers job) (same_text job.system system) e))
 
 pub gone : (state : State) (system numbers : List ℕ) (job : Job) → Contains numbers job.number → job.system ≡ system → ¬ Contains (after state (Release system numbers)).0.jobs job
-gone state system numbers job number own there = apart (goes system numbers job number own) (from_filter (λ (other : Job). not (is_released system numbers other)) state.jobs job there).1
+gone state system numbers job number own there = both_ways _ (not-true (is_released system numbers job) (from_filter (λ (other : Job). not (is_released system numbers other)) state.jobs job there).1) (goes system numbers job number own)
 
 -- a job that isn't let go stays
 pub left_alone : (state : State) (system numbers : List ℕ) (job : Job) → Contains state.jobs job → is_released system numbers job ≡ false → Contains (after state (Release system numbers)).0.jobs job
-left_alone state system numbers job there e = kept (λ (other : Job). not (is_released system numbers other)) state.jobs job there (ap not e)
+left_alone state system numbers job there e = in_filter (λ (other : Job). not (is_released system numbers other)) state.jobs job there (ap not e)
 
 pub stays : (state : State) (system numbers : List ℕ) (job : Job) → Contains state.jobs job → (¬ Contains numbers job.number) ⊎ (¬ (job.system ≡ system)) → Contains (after state (Release system numbers)).0.jobs job
 stays state system numbers job there other = by-test (is_released system numbers job) refl

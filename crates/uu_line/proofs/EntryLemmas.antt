@@ -1,12 +1,12 @@
 -- The entries of a line that `clap` takes: what the program's own rules make of the checks that its
 -- words pass.
-use Rattle.std.proofs.Common.{◌≡◌, ◌&&◌, ◌||◌, ◌==◌, ◌≤◌, ◌⊎◌, inl, inr, ⊎_elim, sym, refl, subst, ℕ, Bool, true, false, not, cond, List, [], ◌∷◌, ◌++◌, length, codes, fold, Option, Some, None, is_some, true≢false, arith}
+use Rattle.std.proofs.Common.{◌≡◌, ◌&&◌, ◌||◌, ◌==◌, ◌≤◌, ◌⊎◌, ⊎_elim, sym, refl, subst, ℕ, Bool, true, false, not, cond, List, [], ◌∷◌, ◌++◌, length, codes, fold, Option, Some, None, is_some, true≢false, arith}
 use Rattle.std.specs.Prelude.{⊤, IsSome, find, nat_le, nat_lt, option_and_then, option_map, slice_get, unwrap_or}
 use Rattle.std.specs.List.{list_all, list_any}
 use Rattle.std.specs.Option.{option_map_or}
 use Rattle.std.specs.Str.{bytes_eq}
 use Rattle.std.specs.Str.Parse.{digits_value, without_leading_plus}
-use Rattle.std.proofs.lemmas.Bool.{leb-true, le-leb}
+use Rattle.std.proofs.lemmas.Bool.{leb-true, le-leb, and_from, or_left, or_right, or_cases, or_parts}
 use Rattle.std.proofs.lemmas.Slice.Eq.{bytes_eq-Decides}
 use Rattle.clap.specs.Facts.{explicit_source, parser_of_value, unwrap_or_range}
 use Rattle.clap.specs.Values.{refused_kind}
@@ -34,33 +34,13 @@ use Rattle.uu_line.proofs.UseLemmas.{HoldsIfAny, RowsHold, RulesHold, UsesHold, 
 
 -- ---- tests
 
-and_true : (a b : Bool) → a ≡ true → b ≡ true → (a && b) ≡ true
-and_true true b e f = f
-and_true false b e f = absurd (true≢false (sym e))
-
-or_left : (a b : Bool) → a ≡ true → (a || b) ≡ true
-or_left true b e = refl
-or_left false b e = absurd (true≢false (sym e))
-
-or_right : (a b : Bool) → b ≡ true → (a || b) ≡ true
-or_right true b e = refl
-or_right false b e = e
-
-either : (a b : Bool) → (a || b) ≡ true → (a ≡ true) ⊎ (b ≡ true)
-either true b e = inl refl
-either false b e = inr e
-
-neither : (a b : Bool) → (a || b) ≡ false → (a ≡ false) × (b ≡ false)
-neither true b e = absurd (true≢false e)
-neither false b e = (refl, e)
-
 where_it : (a b : Bool) → (not a || b) ≡ true → a ≡ true → b ≡ true
 where_it true b e is = e
 where_it false b e is = absurd (true≢false (sym is))
 
 any_left : {X : Type 0} (p : X → Bool) (xs ys : List X) → list_any p xs ≡ true → list_any p (xs ++ ys) ≡ true
 any_left p [] ys e = absurd (true≢false (sym e))
-any_left p (x ∷ xs) ys e = ⊎_elim (λ here. or_left (p x) _ here) (λ later. or_right (p x) _ (any_left p xs ys later)) (either (p x) (list_any p xs) e)
+any_left p (x ∷ xs) ys e = ⊎_elim (λ here. or_left (p x) _ here) (λ later. or_right (p x) _ (any_left p xs ys later)) (or_cases (p x) (list_any p xs) e)
 
 any_right : {X : Type 0} (p : X → Bool) (xs ys : List X) → list_any p ys ≡ true → list_any p (xs ++ ys) ≡ true
 any_right p [] ys e = e
@@ -129,7 +109,7 @@ up_to_joins : (most : ℕ) (xs ys : List Text) → AreNumbersUpTo most xs → Ar
 up_to_joins most [] ys h k = k
 up_to_joins most (x ∷ xs) ys h k =
     let parts = both (is_unsigned_in 0 most x) (list_all (is_unsigned_in 0 most) xs) h in
-    and_true _ _ parts.0 (up_to_joins most xs ys parts.1 k)
+    and_from _ _ parts.0 (up_to_joins most xs ys parts.1 k)
 
 abbrev reads_up_to : ℕ → ValueParser → Bool
 reads_up_to most (vp.Unsigned low high) = nat_le high most
@@ -148,7 +128,7 @@ widened low high most text le e =
     let bounds = both _ _ fits.1 in
     let above : n ≤ high = leb-true n high bounds.1 in
     let wide : high ≤ most = leb-true high most le in
-    and_true _ _ numeral.0 (and_true _ _ fits.0 (and_true _ _ (le-leb 0 n (omega arith)) (le-leb n most (omega (arith, above, wide)))))
+    and_from _ _ numeral.0 (and_from _ _ fits.0 (and_from _ _ (le-leb 0 n (omega arith)) (le-leb n most (omega (arith, above, wide)))))
 
 accepted : (b : Bool) (k : ErrorKind) → cond b [] (k ∷ []) ≡ [] → b ≡ true
 accepted true k e = refl
@@ -159,7 +139,7 @@ values_up_to ignore_case low high most [] le e = refl
 values_up_to ignore_case low high most (v ∷ vs) le e =
     let first = value_kinds ignore_case (vp.Unsigned low high) v in
     let rest = values_kinds ignore_case (vp.Unsigned low high) vs in
-    and_true _ _ (widened low high most v le (accepted (is_unsigned_in low high v) (refused_kind (vp.Unsigned low high)) (first_passes first rest e)))
+    and_from _ _ (widened low high most v le (accepted (is_unsigned_in low high v) (refused_kind (vp.Unsigned low high)) (first_passes first rest e)))
     (values_up_to ignore_case low high most vs le (then_passes first rest e))
 
 parsed_up_to : (ignore_case : Bool) (p : ValueParser) (most : ℕ) (vs : List Text) → reads_up_to most p ≡ true → values_kinds ignore_case p vs ≡ [] → AreNumbersUpTo most vs
@@ -242,13 +222,13 @@ required_given : (rows : List Row) (id : Text) (c : List Rule) → list_any (λ 
     → list_any (λ a. a.required && bytes_eq a.id id) c ≡ true → is_given id rows ≡ true
 required_given rows id [] missing e = absurd (true≢false (sym e))
 required_given rows id (a ∷ c) missing e =
-    let none = neither _ _ missing in
+    let none = or_parts _ _ missing in
     ⊎_elim
     (λ here.
     let wanted = both a.required (bytes_eq a.id id) here in
     subst (λ key. is_given key rows ≡ true) ((bytes_eq-Decides a.id id).0 wanted.1) (given_there a.required (is_given a.id rows) wanted.0 none.0))
     (λ later. required_given rows id c none.1 later)
-    (either (a.required && bytes_eq a.id id) _ e)
+    (or_cases (a.required && bytes_eq a.id id) _ e)
 
 given_found : (o : Option Row) → option_map_or (λ r. explicit_source r.source) o false ≡ true → is_some o ≡ true
 given_found None e = absurd (true≢false (sym e))
@@ -261,8 +241,8 @@ row_stays id key change missing [] each e = absurd (true≢false (sym e))
 row_stays id key change missing (r ∷ rs) each e = go (bytes_eq r.id key) (row_stays id key change missing rs each)
   where
     go : (b : Bool) → (has_row id rs ≡ true → has_row id (at_row key change missing rs) ≡ true) → has_row id (cond b (change r ++ rs) (r ∷ at_row key change missing rs)) ≡ true
-    go true more = ⊎_elim (λ here. any_left _ (change r) rs (each r here)) (λ later. any_right _ (change r) rs later) (either (bytes_eq r.id id) (has_row id rs) e)
-    go false more = ⊎_elim (λ here. or_left (bytes_eq r.id id) _ here) (λ later. or_right (bytes_eq r.id id) _ (more later)) (either (bytes_eq r.id id) (has_row id rs) e)
+    go true more = ⊎_elim (λ here. any_left _ (change r) rs (each r here)) (λ later. any_right _ (change r) rs later) (or_cases (bytes_eq r.id id) (has_row id rs) e)
+    go false more = ⊎_elim (λ here. or_left (bytes_eq r.id id) _ here) (λ later. or_right (bytes_eq r.id id) _ (more later)) (or_cases (bytes_eq r.id id) (has_row id rs) e)
 
 row_added : (key : Text) (change : Row → List Row) (missing rows : List Row) → ((r : Row) → bytes_eq r.id key ≡ true → has_row key (change r) ≡ true)
     → has_row key missing ≡ true → has_row key (at_row key change missing rows) ≡ true
@@ -309,7 +289,7 @@ default_there id (a ∷ c) rows e =
     let parts = both (not (is_empty a.defaults)) (bytes_eq a.id id) here in
     defaults_stay id c (with_default rows a) (subst (λ key. has_row key (with_default rows a) ≡ true) ((bytes_eq-Decides a.id id).0 parts.1) (with_default_added rows a parts.0)))
     (λ later. default_there id c (with_default rows a) later)
-    (either (not (is_empty a.defaults) && bytes_eq a.id id) _ e)
+    (or_cases (not (is_empty a.defaults) && bytes_eq a.id id) _ e)
 
 -- ---- one level of the words
 
@@ -364,7 +344,7 @@ module _ (s : Shape) (names : Names) (words : List Text) where
   level_text : (id : Text) (below : Kinds) → level_fault s names nothing_held words false below ≡ [] → has_text id s ≡ true → IsSome (first_of id (rows_after s.rules names words))
   level_text id below e test =
       let parts = both (fit id takes_some s.rules) (has_required id s || has_default id s) test in
-      ⊎_elim (λ required. required_text id below e parts.0 required) (λ default. default_text id false below e parts.0 default) (either (has_required id s) (has_default id s) parts.1)
+      ⊎_elim (λ required. required_text id below e parts.0 required) (λ default. default_text id false below e parts.0 default) (or_cases (has_required id s) (has_default id s) parts.1)
 
   level_texts : (ids : List Text) (below : Kinds) → level_fault s names nothing_held words false below ≡ [] → list_all (λ id. has_text id s) ids ≡ true → HaveTexts ids (rows_after s.rules names words)
   level_texts [] below e test = tt
@@ -449,7 +429,7 @@ answered_by : (word name : Text) (aliases : List Text) → is_empty aliases ≡ 
 answered_by word name aliases none e =
     ⊎_elim (λ own. own)
     (λ other. absurd (true≢false (sym (subst (λ (l : List Text). list_any (λ alias. bytes_eq alias word) l ≡ true) (is_nil aliases none) other))))
-    (either (bytes_eq name word) (list_any (λ alias. bytes_eq alias word) aliases) e)
+    (or_cases (bytes_eq name word) (list_any (λ alias. bytes_eq alias word) aliases) e)
 
 -- the entries below, of a subcommand that is not `help`
 below_taken : (s : Shape) (word : Text) (words : List Text) → passes_below s ≡ true → answers_to word (label_of s) ≡ true → is_other word ≡ true
@@ -471,7 +451,7 @@ below_taken s word words test answers other e = record {
     inner : (is_some (subcommand_named s.name) && (list_all (λ id. has_text id s) (texts_of s.name) && fit (codes "job") (takes_numbers most_job) s.rules)) ≡ true
     inner = ⊎_elim
         (λ help. absurd (true≢false (sym (subst (λ b. not b ≡ true) (subst (λ t. bytes_eq t (codes "help") ≡ true) named_so help) other))))
-        (λ own. own) (either (bytes_eq s.name (codes "help")) _ outer.1)
+        (λ own. own) (or_cases (bytes_eq s.name (codes "help")) _ outer.1)
 
     parts : (is_some (subcommand_named s.name) ≡ true) × ((list_all (λ id. has_text id s) (texts_of s.name) && fit (codes "job") (takes_numbers most_job) s.rules) ≡ true)
     parts = both _ _ inner

@@ -1,5 +1,5 @@
 -- Commands that grow by a row of a table after the other.
-use Rattle.std.proofs.Common.{◌≡◌, ◌||◌, Bool, true, false, refl, ◌≤◌, ◌<◌, ◌∙◌, ap, sym, ℕ, zero, suc, List, [], ◌∷◌, ◌++◌, length, drop, take, slice_index_or, arith}
+use Rattle.std.proofs.Common.{◌≡◌, false, ◌≤◌, ◌<◌, ◌∙◌, ap, sym, ℕ, zero, suc, List, [], ◌∷◌, ◌++◌, length, drop, take, slice_index_or, arith}
 use Rattle.std.specs.Prelude.{⊤}
 use Rattle.std.proofs.lemmas.List.{drop_all}
 use Rattle.clap.specs.Words.{App, app_of, with_rule, with_subcommand}
@@ -9,10 +9,6 @@ use Rattle.clap.specs.declared.builder.command.Command.TheViews.{out-Command as 
 use Rattle.uu_line.specs.Internal.Tables.{app_for, rule_for, with_apps, with_rules}
 use Rattle.uu_line.specs.declared.commands.Entry.{Entry}
 use Rattle.uu_line.specs.declared.commands.Subcommand.{Subcommand}
-
-pub or_false : (b : Bool) → (b || false) ≡ b
-or_false true = refl
-or_false false = refl
 
 pub rules_next : (whole app next : App) (entries : List Entry) (i : ℕ) (d : Entry) → i < length entries → with_rules app (drop i entries) ≡ whole
     → next ≡ with_rule app (rule_for (slice_index_or entries i d)) → with_rules next (drop (suc i) entries) ≡ whole

@@ -66,14 +66,14 @@ signs_more (o ∷ ops) op = ap (λ t. tokens.Additive o ∷ t) (signs_more ops o
 
 -- ---- one token
 
+regroup : (a b c d : List Token) → (a ++ (b ++ c)) ++ d ≡ a ++ (b ++ (c ++ d))
+regroup a b c d = simp append_assoc
+
 -- a factor
 factor_grows : (outer : List Level) (l : Level) (d : Bool) (v : Option ℤ) (o u t : List Token) (f : Factor) → OuterBefore outer o → LevelBefore l.sum l.product u → t ≡ o ++ (u ++ factor_text f) → Grown (Some (with_factor outer l d v)) t
 factor_grows outer l d v o u t f before (a, b, ops, in_sum, in_product, e) et =
     let (p, ep) = product_to l.product b (with_signs ops f) in_product in
     (o, a, p, before, in_sum, refl, et ∙ ap (λ x. o ++ x) (ap (λ x. x ++ factor_text f) e ∙ (regroup a b (signs_text ops) (factor_text f) ∙ ap (λ x. a ++ x) (ap (λ x. b ++ x) (sym (factor_text-with_signs ops f)) ∙ sym ep))))
-  where
-    regroup : (a b c d : List Token) → (a ++ (b ++ c)) ++ d ≡ a ++ (b ++ (c ++ d))
-    regroup a b c d = simp append_assoc
 
 operand_grows : (outer : List Level) (l : Level) (d : Bool) (k : Token) (t : List Token) → StageBefore outer l Operand t → Grown (at_operand outer l d k) (t ++ k ∷ [])
 operand_grows outer l d (tokens.Amount v) t (o, u, before, here, e) = factor_grows outer l d (option_and_then kept v) o u _ (amount v) before here (ap (λ x. x ++ tokens.Amount v ∷ []) e ∙ append_assoc o u (tokens.Amount v ∷ []))
@@ -124,9 +124,6 @@ operator_grows outer l d v (tokens.Multiplicative op) t (o, a, p, before, in_sum
   (a, product_text p ++ tokens.Multiplicative op ∷ [], [], in_sum, (p, refl), ap (λ x. a ++ x) (sym (append-nil (product_text p ++ tokens.Multiplicative op ∷ [])))),
   ap (λ x. x ++ tokens.Multiplicative op ∷ []) e ∙ regroup o a (product_text p) (tokens.Multiplicative op ∷ []),
 )
-  where
-    regroup : (a b c d : List Token) → (a ++ (b ++ c)) ++ d ≡ a ++ (b ++ (c ++ d))
-    regroup a b c d = simp append_assoc
 operator_grows outer l d v tokens.Close t (o, a, p, before, in_sum, none, e) = closed_grows outer l d (sum_with l.sum v) o a t p before in_sum e
 operator_grows outer l d v (tokens.Amount w) t before = tt
 operator_grows outer l d v tokens.Dead t before = tt

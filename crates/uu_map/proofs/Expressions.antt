@@ -1,6 +1,6 @@
 -- Reading an expression token by token gives its tree's value.
 use Rattle.std.proofs.Common.{◌≡◌, ℕ, zero, suc, ◌^◌, Bool, true, false, cond, ◌||◌, ◌&&◌, List, [], ◌∷◌, ◌++◌, Option, Some, None, option_and_then, ℤ, pos, negsuc, ◌+ℤ◌, ◌-ℤ◌, ◌*ℤ◌, neg_ℤ, unsigned_abs, nat_le, refl, sym, ap, ◌∙◌, append_assoc}
-use Rattle.std.proofs.Math.Bool.{or-false, or_assoc}
+use Rattle.std.proofs.Math.Bool.{or-false, or_assoc, or-true}
 use Rattle.std.specs.Int.RustNames.{int_div}
 use Rattle.uu_map.specs.declared.token.Additive.{Additive}
 use Rattle.uu_map.specs.declared.token.Additive.TheVariants.{Plus, Minus}
@@ -98,10 +98,6 @@ negated_if-flipped Minus true v h = sym (negated_twice v h)
 
 -- ---- tests
 
-or_true : (b : Bool) → (b || true) ≡ true
-or_true true = refl
-or_true false = refl
-
 cond_and : {A : Type 0} (a b : Bool) (x y : A) → cond (a && b) x y ≡ cond a (cond b x y) y
 cond_and true b x y = refl
 cond_and false b x y = refl
@@ -152,7 +148,7 @@ mutual
 
   reads_factor : (f : Factor) (outer : List Level) (sum : Option (Option ℤ × Additive)) (product : Option (Option ℤ × Multiplicative)) (negative : Bool) (room base : ℕ) (d : Bool) (rest : List Token) → run (at outer (level_of sum product negative room base) Operand d) (factor_text f ++ rest) ≡ cond (factor_fits room f) (run (at outer (plain sum base) (Operator (product_with product (negated_if negative (factor_value f)))) (d || factor_is_dead f)) rest) None
   reads_factor (amount v) outer sum product negative room base d rest = ap (λ e. run (at outer (plain sum base) (Operator (product_with product (negated_if negative (option_and_then kept v)))) e) rest) (sym (or-false d))
-  reads_factor dead outer sum product negative room base d rest = ap (λ e. run (at outer (plain sum base) (Operator (product_with product (negated_if negative None))) e) rest) (sym (or_true d))
+  reads_factor dead outer sum product negative room base d rest = ap (λ e. run (at outer (plain sum base) (Operator (product_with product (negated_if negative None))) e) rest) (sym (or-true d))
   reads_factor (group s) outer sum product negative zero base d rest = refl
   reads_factor (group s) outer sum product negative (suc room) base d rest =
       ap (run (at (level_of sum product negative (suc room) base ∷ outer) (plain None room) Operand d)) (append_assoc (sum_text s) (tokens.Close ∷ []) rest)

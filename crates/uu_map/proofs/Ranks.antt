@@ -1,7 +1,7 @@
 -- Links that are ranked, sorted and listed.
 use Rattle.std.proofs.Common.{◌≡◌, ◌↔◌, ℕ, ◌<◌, Bool, true, false, ◌&&◌, List, [], ◌∷◌, length, map, None, Ordering, nat_eq, refl, sym, ap, ◌∙◌, subst, IsPermutation, arith}
 use Rattle.std.specs.declared.cmp.Ordering.TheVariants.{Less, Equal, Greater}
-use Rattle.std.specs.Ordering.{nat_cmp, ordering_then, ordering_reverse, is_eq, eq_by_cmp}
+use Rattle.std.specs.Ordering.{nat_cmp, ordering_then, is_eq, eq_by_cmp}
 use Rattle.std.specs.Cmp.{IsTotalOrder, IsEquivalence, Equal-is}
 use Rattle.std.specs.Cmp.Lexicographic.{slice_cmp, pointwise, texts_ties}
 use Rattle.std.specs.List.{Contains, dedup, AllByRecursion}
@@ -13,13 +13,15 @@ use Rattle.std.proofs.lemmas.List.{length-map, get_or-map}
 use Rattle.std.proofs.lemmas.List.Filters.{dedup_is}
 use Rattle.std.proofs.lemmas.List.Kept.{Contains-dedup, Contains-from_dedup, IsStrictlySortedBy-dedup}
 use Rattle.std.proofs.lemmas.List.Sorted.{Contains-permutation, IsPermutation-sym}
+use Rattle.std.proofs.lemmas.Map.Lookups.{exact_bytes}
+use Rattle.uu_names.proofs.Basics.{is_eq-ordering_reverse}
 use Rattle.uu_map.specs.declared.entry.Cost.{Cost}
 use Rattle.uu_map.specs.declared.entry.Cost.TheVariants.{Value, Dead}
 use Rattle.uu_map.specs.declared.entry.Link.{Link}
 use Rattle.uu_map.specs.declared.least.Ranked.{Ranked}
 use Rattle.uu_map.specs.Listing.{IsLeast, cost_cmp, listing_cmp, IsListing}
 use Rattle.uu_map.specs.Internal.Ranking.{by_name_cmp, as_link, ranked_cmp, firsts_after}
-use Rattle.uu_map.proofs.LeastCosts.{cost_total, same_name, firsts_least}
+use Rattle.uu_map.proofs.LeastCosts.{cost_total, firsts_least}
 
 -- ---- the order of ranked links
 
@@ -52,15 +54,10 @@ ranked_ties a b =
     ∙ (ap (λ t. is_eq (cost_cmp a.cost b.cost) && t) (texts_ties a.to b.to)
     ∙ is_eq_then (cost_cmp a.cost b.cost) (slice_cmp nat_cmp a.to b.to))
 
-is_eq_reverse : (o : Ordering) → is_eq (ordering_reverse o) ≡ is_eq o
-is_eq_reverse Less = refl
-is_eq_reverse Equal = refl
-is_eq_reverse Greater = refl
-
 ranked_equivalence : IsEquivalence (eq_by_cmp ranked_cmp)
 ranked_equivalence = record {
   refl = λ x. ap is_eq (tied_itself ranked_total x);
-  symm = λ x y. ap is_eq (ranked_total.antisymm x y) ∙ is_eq_reverse (ranked_cmp y x);
+  symm = λ x y. ap is_eq (ranked_total.antisymm x y) ∙ is_eq-ordering_reverse (ranked_cmp y x);
   congr = λ x y z e. ap is_eq (ranked_total.congr x y z ((Equal-is (ranked_cmp x y)).0 e));
 }
 
@@ -87,7 +84,7 @@ ranked_same : (a b : Ranked) → eq_by_cmp ranked_cmp a b ≡ true → a ≡ b
 ranked_same a b e =
     let tied : ranked_cmp a b ≡ Equal = (Equal-is (ranked_cmp a b)).0 e in
     let costs : a.cost ≡ b.cost = cost_same a.cost b.cost (then_first (cost_cmp a.cost b.cost) (slice_cmp nat_cmp a.to b.to) tied) in
-    let names : a.to ≡ b.to = same_name a.to b.to (then_second (cost_cmp a.cost b.cost) (slice_cmp nat_cmp a.to b.to) tied) in
+    let names : a.to ≡ b.to = exact_bytes a.to b.to (then_second (cost_cmp a.cost b.cost) (slice_cmp nat_cmp a.to b.to) tied) in
     ap (λ (c : Cost). let r : Ranked = record { cost = c; to = a.to } in r) costs ∙ ap (λ (t : List ℕ). let r : Ranked = record { cost = b.cost; to = t } in r) names
 
 -- ---- what sort and dedup leave

@@ -1,23 +1,19 @@
 -- What a path's text is made of, and where it may be cut.
 use Rattle.std.proofs.Common.{◌≡◌, ℕ, ◌+◌, ◌<◌, true, List, [], ◌∷◌, ◌++◌, length, take, drop, get_or, IsTrue, IsUtf8, IsAscii, IsCharBoundary, refl, ap, sym, ◌∙◌, arith, append_assoc, length-append}
 use Rattle.std.specs.List.{list_all, position_or_len}
-use Rattle.std.proofs.lemmas.Bool.Decides.{nat_tests}
 use Rattle.std.proofs.lemmas.List.{take_at, drop_at, get_or_at, length_push}
 use Rattle.std.proofs.lemmas.Str.{IsCharBoundary-before_ascii, IsCharBoundary-after_ascii}
 use Rattle.std.proofs.lemmas.Str.Ascii.{IsAscii-nil, IsAscii-cons}
 use Rattle.uu_names.specs.Name.{is_word_byte, is_site_name, is_word}
 use Rattle.uu_names.specs.Path.{IsPathText, is_bang, first_hop, rest_of}
 use Rattle.uu_names.proofs.PathScan.{IsCut, cut_path, position_front, path_bytes, path_fits}
-use Rattle.uu_names.proofs.Basics.{and_first, and_second}
-
-below_128 : (b : ℕ) → is_word_byte b ≡ true → b < 128
-below_128 b h = grind (arith, nat_tests)
+use Rattle.uu_names.proofs.Basics.{and_first, and_second, word_byte_below}
 
 -- word bytes are ASCII
 pub word_bytes_ascii : (xs : List ℕ) → list_all is_word_byte xs ≡ true → IsAscii xs
 word_bytes_ascii [] e = IsAscii-nil
 word_bytes_ascii (x ∷ xs) e =
-    IsAscii-cons x xs (below_128 x (and_first (is_word_byte x) (list_all is_word_byte xs) e)) (word_bytes_ascii xs (and_second (is_word_byte x) (list_all is_word_byte xs) e))
+    IsAscii-cons x xs (word_byte_below x (and_first (is_word_byte x) (list_all is_word_byte xs) e)) (word_bytes_ascii xs (and_second (is_word_byte x) (list_all is_word_byte xs) e))
 
 pub path_ascii : (text : List ℕ) → IsPathText text → IsAscii text
 path_ascii text p = word_bytes_ascii text (path_bytes text p)

@@ -4,12 +4,14 @@ use Rattle.std.proofs.lemmas.List.{take_all, take_more, drop_more, take-append-d
 use Rattle.std.specs.Option.{option_or}
 use Rattle.std.specs.List.{list_all, list_any, join_with_byte, position_or_len}
 use Rattle.std.proofs.lemmas.Bool.Decides.{nat_tests}
+use Rattle.std.proofs.lemmas.List.Folds.{list_all-append}
+use Rattle.std.proofs.Math.Bool.{and-true}
 use Rattle.uu_names.specs.Name.{is_site_byte, is_word_byte, has_form, is_site_name, is_word}
 use Rattle.uu_names.specs.Path.{BangPath, is_bang, path_text, is_local_byte, has_path_form, is_within_limits, IsPathText, BeginsPath, IsBadPathAt, IsLongPath, IsPathFault}
 use Rattle.uu_names.specs.Fault.{UnlessMemory}
 use Rattle.uu_names.specs.declared.fault.NameFault.{NameFault}
 use Rattle.uu_names.specs.declared.fault.NameFault.TheVariants.{BadGrade, BadName, BadPath, BadWord, NoEnvelope, TooLong, Memory}
-use Rattle.uu_names.proofs.Basics.{and_first, and_second, list_all_weaker}
+use Rattle.uu_names.proofs.Basics.{and_first, and_second, list_all_weaker, any_push}
 
 -- ---- the text of some sites and a part, from the front and from the end
 
@@ -152,30 +154,10 @@ pub record IsScanned (seen : List ℕ) (first_bang : Option ℕ) (part_len : ℕ
   pub is_site : part_is_site ≡ list_all is_site_byte part
   pub long : long_site ≡ list_any is_long_site sites
 
-list_all-append : (p : ℕ → Bool) (xs ys : List ℕ) → list_all p (xs ++ ys) ≡ list_all p xs && list_all p ys
-list_all-append p [] ys = refl
-list_all-append p (x ∷ xs) ys = ap (λ b. p x && b) (list_all-append p xs ys) ∙ and-assoc (p x) _ _
-  where
-    and-assoc : (a b c : Bool) → a && (b && c) ≡ (a && b) && c
-    and-assoc true b c = refl
-    and-assoc false b c = refl
-
 all_sites_push : (sites : List (List ℕ)) (part : List ℕ) → all_sites sites ≡ true → has_form is_site_byte part ≡ true → all_sites (sites ++ part ∷ []) ≡ true
 all_sites_push [] part p q = rw q
 all_sites_push (site ∷ sites) part p q =
     rw (and_first (has_form is_site_byte site) (all_sites sites) p, all_sites_push sites part (and_second (has_form is_site_byte site) (all_sites sites) p) q)
-
-long_push : (sites : List (List ℕ)) (part : List ℕ) → list_any is_long_site (sites ++ part ∷ []) ≡ list_any is_long_site sites || is_long_site part
-long_push [] part = or-false (is_long_site part)
-  where
-    or-false : (b : Bool) → b || false ≡ b
-    or-false true = refl
-    or-false false = refl
-long_push (site ∷ sites) part = ap (λ b. is_long_site site || b) (long_push sites part) ∙ or-assoc (is_long_site site) _ _
-  where
-    or-assoc : (a b c : Bool) → a || (b || c) ≡ (a || b) || c
-    or-assoc true b c = refl
-    or-assoc false b c = refl
 
 -- the place of the first `!`, if there is one more at this place
 abbrev pub or_at : Option ℕ → ℕ → Option ℕ
@@ -198,7 +180,7 @@ scan_bang {seen} {first} {n} {s} {l} k some site =
       first = ap (λ f. or_at f (length seen)) k.first ∙ sym (first_len_push k.sites k.part (length seen) (ap length k.text));
       len = refl;
       is_site = refl;
-      long = (λ i. k.long i || ltb 63 (k.len i)) ∙ sym (long_push k.sites k.part);
+      long = (λ i. k.long i || ltb 63 (k.len i)) ∙ sym (any_push is_long_site k.sites k.part);
     }
   where
     nothing : (sites : List (List ℕ)) → list_all (part_byte sites) [] ≡ true
@@ -215,13 +197,9 @@ scan_byte {seen} {first} {n} {s} {l} b site k is ok = record {
   bytes = list_all-append (part_byte k.sites) k.part (b ∷ []) ∙ rw (k.bytes, ok);
   first = k.first;
   len = omega (arith, k.len, length-append k.part (b ∷ []));
-  is_site = (λ i. k.is_site i && is i) ∙ ap (λ t. list_all is_site_byte k.part && t) (and-true (is_site_byte b)) ∙ sym (list_all-append is_site_byte k.part (b ∷ []));
+  is_site = (λ i. k.is_site i && is i) ∙ ap (λ t. list_all is_site_byte k.part && t) (sym (and-true (is_site_byte b))) ∙ sym (list_all-append is_site_byte k.part (b ∷ []));
   long = k.long;
 }
-  where
-    and-true : (c : Bool) → c ≡ c && true
-    and-true true = refl
-    and-true false = refl
 
 -- ---- what has been scanned begins a path
 

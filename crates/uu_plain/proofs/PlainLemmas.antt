@@ -1,18 +1,19 @@
 -- What the machine does to its lists.
-use Rattle.std.proofs.Common.{◌≡◌, ℕ, zero, suc, ◌+◌, ◌-◌, ◌<◌, ◌≤◌, Bool, true, false, not, cond, ◌==◌, List, [], ◌∷◌, ◌++◌, map, filter, find, length, take, drop, set, All, AllPairs, Option, Some, None, Result, Ok, Err, get_or, nat_cmp, nat_eq, OnErr, MatchResult, refl, ap, sym, ◌∙◌, subst, arith, is_some}
+use Rattle.std.proofs.Common.{◌≡◌, ℕ, suc, ◌+◌, ◌-◌, ◌<◌, ◌≤◌, Bool, true, false, not, cond, ◌==◌, List, [], ◌∷◌, ◌++◌, map, filter, find, length, take, drop, set, All, AllPairs, Option, Some, None, Result, Ok, Err, get_or, nat_cmp, nat_eq, OnErr, MatchResult, refl, ap, sym, ◌∙◌, subst, arith, is_some}
 use Rattle.std.specs.declared.cmp.Ordering.TheVariants.{Less, Equal, Greater}
 use Rattle.std.specs.declared.cmp.Ordering.{Ordering}
 use Rattle.std.specs.Ordering.{is_lt, ordering_reverse}
 use Rattle.std.specs.List.{insert}
 use Rattle.std.specs.Cmp.Lexicographic.{slice_cmp, bytes_decides}
 use Rattle.std.proofs.lemmas.Cmp.{nat_list_cmp_total}
-use Rattle.std.proofs.lemmas.List.{take_more, drop_more, set-get_or, get_or-drop, get_or_default, length-drop, take-append-drop, append-nil, map-append, set_split}
+use Rattle.std.proofs.lemmas.List.{take_more, drop_more, set-get_or, get_or-drop, get_or_default, length-drop, take-append-drop, append-nil, map-append, set_split, get_or-map}
 use Rattle.std.proofs.lemmas.List.Edits.{map_over_more}
 use Rattle.std.proofs.lemmas.List.Elements.{All-nil, All-cons, All-head, All-tail, All-weaker, All-append, filter-append}
-use Rattle.std.proofs.lemmas.Bool.{eqb-true}
+use Rattle.std.proofs.lemmas.Bool.{eqb-true, or_parts, ltb-false}
 use Rattle.std.proofs.lemmas.Bool.Decides.{nat_tests}
 use Rattle.std.proofs.lemmas.Map.Keys.{IsDistinct-from_apart}
 use Rattle.std.proofs.lemmas.List.{length-map}
+use Rattle.uu_names.proofs.Basics.{filter_none, find_any, find_none, not_before_itself, is_some-find, pairs_first, pairs_rest, lt-eqb, filter_passing, cond_none}
 use Rattle.uu_times.specs.declared.moment.Moment.{Moment}
 use Rattle.uu_core.specs.declared.job.JobHead.{JobHead}
 use Rattle.uu_core.specs.declared.custody.HandIn.{HandIn}
@@ -36,19 +37,11 @@ use Rattle.uu_core.specs.Due.{HaveNumbers}
 use Rattle.uu_core.specs.Run.{state_after, replies_to}
 use Rattle.uu_core.specs.Order.{AreByName, IsInOrder}
 use Rattle.uu_plain.specs.Lists.{IsGiven}
-use Rattle.uu_core.proofs.RunLemmas.{states_append, replies_append}
-use Rattle.uu_core.proofs.WellFormedLemmas.{within, or_false, none_first, pairs_first, pairs_rest}
-use Rattle.uu_core.proofs.DecisionLemmas.{carried, turned_down, none_decided, some_decided, first_room}
+use Rattle.uu_core.proofs.RunLemmas.{states_append, replies_append, refused}
+use Rattle.uu_core.proofs.DecisionLemmas.{carried, none_decided, some_decided, first_room}
 use Rattle.uu_core.proofs.OrderLemmas.{still_in_order}
-use Rattle.uu_core.proofs.Members.{keeps_none, find_any, find-none}
 
 -- ---- the one system of a name
-
-not_before_itself : (name : List ℕ) → ComesBefore name name → ⊥
-not_before_itself name e = apart (sym e ∙ nat_list_cmp_total.antisymm name name ∙ ap ordering_reverse e)
-  where
-    apart : Less ≡ Greater → ⊥
-    apart q = cc
 
 untouched : (name : List ℕ) (change : SystemRow → CallState) (rows : List SystemRow) → All (λ (row : SystemRow). is_system name row ≡ false) rows → change_call name change rows ≡ rows
 untouched name change [] h = refl
@@ -86,11 +79,6 @@ called_once name change call (row ∷ rows) ordered is = by-test (is_system name
 
 -- ---- loops
 
-keeps_all : {X : Type 0} (p : X → Bool) (xs : List X) → All (λ x. p x ≡ true) xs → filter p xs ≡ xs
-keeps_all p [] h = refl
-keeps_all p (x ∷ xs) h =
-    ap (λ t. cond t (x ∷ filter p xs) (filter p xs)) (All-head (λ y. p y ≡ true) x xs h) ∙ ap (λ rest. x ∷ rest) (keeps_all p xs (All-tail (λ y. p y ≡ true) x xs h))
-
 -- the elements after a place come after the one at it
 rest_after : {X : Type 0} (R : X → X → Type 0) (xs : List X) (i : ℕ) (d : X) → AllPairs R xs → i < length xs → All (R (get_or xs i d)) (drop (i + 1) xs)
 rest_after R xs i d h within k e inside =
@@ -119,8 +107,8 @@ put_among {V} name item first same rest f s r =
     firsts : filter earlier (first ++ (same ++ rest)) ≡ first
     firsts =
         filter-append earlier first (same ++ rest)
-        ∙ ap (λ l. l ++ filter earlier (same ++ rest)) (keeps_all earlier first (All-weaker (λ x. slice_cmp nat_cmp (name item) (name x) ≡ Greater) (λ x. earlier x ≡ true) (λ x e. turned x Greater e) first f))
-        ∙ ap (λ l. first ++ l) (keeps_none earlier (same ++ rest) (All-append (λ x. earlier x ≡ false) same rest
+        ∙ ap (λ l. l ++ filter earlier (same ++ rest)) (filter_passing earlier first (All-weaker (λ x. slice_cmp nat_cmp (name item) (name x) ≡ Greater) (λ x. earlier x ≡ true) (λ x e. turned x Greater e) first f))
+        ∙ ap (λ l. first ++ l) (filter_none earlier (same ++ rest) (All-append (λ x. earlier x ≡ false) same rest
         (All-weaker (λ x. slice_cmp nat_cmp (name item) (name x) ≡ Equal) (λ x. earlier x ≡ false) (λ x e. turned x Equal e) same s)
         (All-weaker (λ x. slice_cmp nat_cmp (name item) (name x) ≡ Less) (λ x. earlier x ≡ false) (λ x e. turned x Less e) rest r)))
         ∙ append-nil first
@@ -128,10 +116,10 @@ put_among {V} name item first same rest f s r =
     rests : filter later (first ++ (same ++ rest)) ≡ rest
     rests =
         filter-append later first (same ++ rest)
-        ∙ ap (λ l. l ++ filter later (same ++ rest)) (keeps_none later first (All-weaker (λ x. slice_cmp nat_cmp (name item) (name x) ≡ Greater) (λ x. later x ≡ false) (λ x e. ap is_lt e) first f))
+        ∙ ap (λ l. l ++ filter later (same ++ rest)) (filter_none later first (All-weaker (λ x. slice_cmp nat_cmp (name item) (name x) ≡ Greater) (λ x. later x ≡ false) (λ x e. ap is_lt e) first f))
         ∙ filter-append later same rest
-        ∙ ap (λ l. l ++ filter later rest) (keeps_none later same (All-weaker (λ x. slice_cmp nat_cmp (name item) (name x) ≡ Equal) (λ x. later x ≡ false) (λ x e. ap is_lt e) same s))
-        ∙ keeps_all later rest (All-weaker (λ x. slice_cmp nat_cmp (name item) (name x) ≡ Less) (λ x. later x ≡ true) (λ x e. ap is_lt e) rest r)
+        ∙ ap (λ l. l ++ filter later rest) (filter_none later same (All-weaker (λ x. slice_cmp nat_cmp (name item) (name x) ≡ Equal) (λ x. later x ≡ false) (λ x e. ap is_lt e) same s))
+        ∙ filter_passing later rest (All-weaker (λ x. slice_cmp nat_cmp (name item) (name x) ≡ Less) (λ x. later x ≡ true) (λ x e. ap is_lt e) rest r)
 
 -- what was made of the items, which are all there were
 pub made_of : {X : Type 0} (make : List X → List X) (items all new whole : List X) → new ≡ make items → items ≡ all → make all ≡ whole → new ≡ whole
@@ -204,13 +192,13 @@ no_call_set name call rows none = sym (untouched name (λ _. call) rows none)
 pub queue_accepted : (known : Bool) (next : ℕ) (job : NewJob) (number : ℕ) → Ok number ≡ decided (queue_reasons known next job) next → (length job.bytes ≤ most_bytes) × ((next == numbers_end) ≡ false) × (next ≡ number)
 queue_accepted known next job number e =
     let d = none_decided (queue_reasons known next job) next number (sym e) in
-    let first = none_first (is_too_large job) _ _ d.0 in
-    let second = none_first (not known) _ _ first.1 in
-    (within most_bytes (length job.bytes) (or_false _ (has_many_arguments job.kind) first.0).0, (none_first (next == numbers_end) _ _ second.1).0, d.1)
+    let first = cond_none (is_too_large job) _ _ d.0 in
+    let second = cond_none (not known) _ _ first.1 in
+    (ltb-false most_bytes (length job.bytes) (or_parts _ (has_many_arguments job.kind) first.0).0, (cond_none (next == numbers_end) _ _ second.1).0, d.1)
 
 pub queue_refused : (state : State) (job : NewJob) (known : Bool) (refusal : Refusal) → known ≡ has_system state job.system → Err refusal ≡ decided (queue_reasons known state.next job) state.next → (state, Refused refusal) ≡ after state (Queue job)
 queue_refused state job known refusal k e =
-    sym (turned_down state (Queue job) refusal (ap (λ b. first_reason (queue_reasons b state.next job)) (sym k) ∙ some_decided (queue_reasons known state.next job) state.next refusal (sym e)))
+    sym (refused state (Queue job) refusal (ap (λ b. first_reason (queue_reasons b state.next job)) (sym k) ∙ some_decided (queue_reasons known state.next job) state.next refusal (sym e)))
 
 -- ---- a job that is handed in under a key
 
@@ -232,7 +220,7 @@ module _ (state : State) (key : Key) (job : NewJob) (known : Bool) (link : Link)
 
   pub once_refused : (refusal : Refusal) → Err refusal ≡ decided (once_reasons known state.next below taken key job) (hand_in_of taken key state.next) → (state, Refused refusal) ≡ after state (QueueOnce key job)
   once_refused refusal e =
-      sym (turned_down state (QueueOnce key job) refusal (sym once_found.1 ∙ some_decided (once_reasons known state.next below taken key job) (hand_in_of taken key state.next) refusal (sym e)))
+      sym (refused state (QueueOnce key job) refusal (sym once_found.1 ∙ some_decided (once_reasons known state.next below taken key job) (hand_in_of taken key state.next) refusal (sym e)))
 
   pub once_again : (number : ℕ) → Ok (Again number) ≡ decided (once_reasons known state.next below taken key job) (hand_in_of taken key state.next) → (state, Number number) ≡ after state (QueueOnce key job)
   once_again number e =
@@ -250,7 +238,7 @@ module _ (state : State) (key : Key) (job : NewJob) (known : Bool) (link : Link)
 pub first_accepted : (known : Bool) (next below : ℕ) (taken : Option Taken) (key : Key) (job : NewJob) (number : ℕ) → Ok (First number) ≡ decided (once_reasons known next below taken key job) (hand_in_of taken key next) → (length job.bytes ≤ most_bytes) × ((next == numbers_end) ≡ false) × (next ≡ number)
 first_accepted known next below taken key job number e =
     let room = first_room known next below taken key job number e in
-    (within most_bytes (length job.bytes) (or_false _ (has_many_arguments job.kind) room.0).0, room.1, room.2)
+    (ltb-false most_bytes (length job.bytes) (or_parts _ (has_many_arguments job.kind) room.0).0, room.1, room.2)
 
 -- ---- reports of calls
 
@@ -277,7 +265,7 @@ failed_accepted state name at why (Some row) call rows h f e r =
 
 pub failed_refused : (state : State) (name : List ℕ) (at : Moment) (why : List ℕ) (found : Option SystemRow) (refusal : Refusal) → found ≡ system_at state name → Err refusal ≡ failed_decision found at why → (state, Refused refusal) ≡ after state (Failed name at why)
 failed_refused state name at why None refusal f e =
-    sym (turned_down state (Failed name at why) refusal (ap (λ b. cond (not b) (Some NoSystem) None) (find-none (is_system name) state.systems (sym f)) ∙ ap Some same))
+    sym (refused state (Failed name at why) refusal (ap (λ b. cond (not b) (Some NoSystem) None) (find_none (is_system name) state.systems (sym f)) ∙ ap Some same))
   where
     same : NoSystem ≡ refusal
     same = cc
@@ -286,18 +274,13 @@ failed_refused state name at why (Some row) refusal f e = absurd apart
     apart : ⊥
     apart = cc
 
--- a system is found exactly if it is known
-found_known : (state : State) (name : List ℕ) (found : Option SystemRow) → found ≡ system_at state name → is_some found ≡ has_system state name
-found_known state name None f = sym (find-none (is_system name) state.systems (sym f))
-found_known state name (Some row) f = sym (find_any (is_system name) state.systems row (sym f))
-
 done_once : (found : Option SystemRow) (row : SystemRow) (at : Moment) → found ≡ Some row → done_call row at ≡ done_call_of found at
 done_once found row at is = ap (λ o. done_call_of o at) (sym is)
 
 pub done_accepted : (state : State) (name : List ℕ) (at : Moment) (numbers : List ℕ) (found : Option SystemRow) (heads : List JobHead) (call : CallState) (jobs : List Job) (rows : List SystemRow) → IsInOrder state → found ≡ system_at state name → heads ≡ map head_of state.jobs → Ok call ≡ decided (done_reasons (is_some found) name numbers heads) (done_call_of found at) → jobs ≡ filter (λ (job : Job). not (is_among numbers job)) state.jobs → rows ≡ change_call name (λ _. call) state.systems → (record state { jobs = jobs; systems = rows }, Carried) ≡ after state (Done name at numbers)
 done_accepted state name at numbers found heads call jobs rows h f hs e j r =
     let known = is_some found in
-    let k = found_known state name found f in
+    let k = ap is_some f ∙ is_some-find (is_system name) state.systems in
     let d = none_decided (done_reasons known name numbers heads) (done_call_of found at) call (sym e) in
     ap (λ js. (record state { jobs = js; systems = rows }, Carried)) j
     ∙ ap (λ systems. (record state { jobs = filter (λ (job : Job). not (is_among numbers job)) state.jobs; systems = systems }, Carried)) (r ∙ called_once name (λ other. done_call other at) call state.systems h.by_name (λ other q. done_once found other at (f ∙ q) ∙ d.1))
@@ -306,10 +289,8 @@ done_accepted state name at numbers found heads call jobs rows h f hs e j r =
 pub done_refused : (state : State) (name : List ℕ) (at : Moment) (numbers : List ℕ) (found : Option SystemRow) (heads : List JobHead) (refusal : Refusal) → found ≡ system_at state name → heads ≡ map head_of state.jobs → Err refusal ≡ decided (done_reasons (is_some found) name numbers heads) (done_call_of found at) → (state, Refused refusal) ≡ after state (Done name at numbers)
 done_refused state name at numbers found heads refusal f hs e =
     let known = is_some found in
-    let k = found_known state name found f in
-    sym (turned_down state (Done name at numbers) refusal (ap (λ b. first_reason (done_reasons b name numbers (map head_of state.jobs))) (sym k) ∙ ap (λ l. first_reason (done_reasons known name numbers l)) (sym hs) ∙ some_decided (done_reasons known name numbers heads) (done_call_of found at) refusal (sym e)))
-
--- ---- map entries
+    let k = ap is_some f ∙ is_some-find (is_system name) state.systems in
+    sym (refused state (Done name at numbers) refusal (ap (λ b. first_reason (done_reasons b name numbers (map head_of state.jobs))) (sym k) ∙ ap (λ l. first_reason (done_reasons known name numbers l)) (sym hs) ∙ some_decided (done_reasons known name numbers heads) (done_call_of found at) refusal (sym e)))
 
 -- ---- the machine
 
@@ -317,18 +298,10 @@ pub given_in_order : {E : Type 0} (old new : State) (command : Command) (result 
 given_in_order old new command (Ok reply) h g = subst IsInOrder (sym (ap (λ (p : State × Reply). p.0) g)) (still_in_order old command h)
 given_in_order old new command (Err fault) h g = subst IsInOrder (sym g) h
 
-get_map : {X Y : Type 0} (f : X → Y) (xs : List X) (i : ℕ) (x : X) (y : Y) → i < length xs → get_or (map f xs) i y ≡ f (get_or xs i x)
-get_map f [] i x y within = absurd (omega (arith, within))
-get_map f (z ∷ xs) zero x y within = refl
-get_map f (z ∷ xs) (suc i) x y within = get_map f xs i x y (omega (arith, within))
-
-nat_differ : (a b : ℕ) → a < b → nat_eq a b ≡ false
-nat_differ a b l = grind (arith, nat_tests)
-
 number_at : (jobs : List Job) (k : ℕ) (job : Job) (d : ℕ) → k < length jobs → get_or (map (λ (head : JobHead). head.number) (map head_of jobs)) k d ≡ (get_or jobs k job).number
 number_at jobs k job d within =
     let n : length (map head_of jobs) ≡ length jobs = length-map jobs head_of in
-    get_map (λ (head : JobHead). head.number) (map head_of jobs) k (head_of job) d (omega (arith, n, within)) ∙ ap (λ (head : JobHead). head.number) (get_map head_of jobs k job (head_of job) within)
+    get_or-map (λ (head : JobHead). head.number) (map head_of jobs) k (head_of job) d (omega (arith, n, within)) ∙ ap (λ (head : JobHead). head.number) (get_or-map head_of jobs k job (head_of job) within)
 
 numbers_differ : (jobs : List Job) (job : Job) → AllPairs (λ (a b : Job). a.number < b.number) jobs → (i j d : ℕ) → i < j → j < length (map (λ (head : JobHead). head.number) (map head_of jobs)) → nat_eq (get_or (map (λ (head : JobHead). head.number) (map head_of jobs)) i d) (get_or (map (λ (head : JobHead). head.number) (map head_of jobs)) j d) ≡ false
 numbers_differ jobs job h i j d below inside =
@@ -336,7 +309,7 @@ numbers_differ jobs job h i j d below inside =
     let m : length (map (λ (head : JobHead). head.number) (map head_of jobs)) ≡ length (map head_of jobs) = length-map (map head_of jobs) (λ (head : JobHead). head.number) in
     let within : j < length jobs = omega (arith, n, m, inside) in
     let first : i < length jobs = omega (arith, below, within) in
-    nat_differ _ _ (omega (arith, number_at jobs i job d first, number_at jobs j job d within, h i j job below within))
+    lt-eqb _ _ (omega (arith, number_at jobs i job d first, number_at jobs j job d within, h i j job below within))
 
 pub have_numbers : (jobs : List Job) → AllPairs (λ (a b : Job). a.number < b.number) jobs → HaveNumbers (map head_of jobs)
 have_numbers [] h = IsDistinct-from_apart nat_eq [] (λ i j d below inside. absurd (omega (arith, inside)))

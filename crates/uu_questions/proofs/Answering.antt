@@ -1,5 +1,5 @@
 -- From what a question in SQL shows to what the question answers.
-use Rattle.std.proofs.Common.{◌≡◌, Result, Ok, Err, sym, subst, ◌∙◌, refl, arith, Bool, true, false, not}
+use Rattle.std.proofs.Common.{◌≡◌, Result, Ok, Err, sym, subst, ◌∙◌, refl, arith}
 use Rattle.std.specs.Prelude.{ℕ, List, Vec, IfOk, OnOk, IsOk, IsErr}
 use Rattle.std.specs.declared.alloc.Global.{Global}
 use Rattle.sqlite.specs.declared.error.Error.{Error}
@@ -12,7 +12,7 @@ use Rattle.uu_schema.specs.Schema.{spool_schema}
 use Rattle.uu_questions.specs.Answers.{IsAt, IsStateOf, Answers}
 use Rattle.uu_rows.specs.Shows.{ShowsRows}
 use Rattle.uu_rows.proofs.Showing.{answered}
-use Rattle.std.proofs.lemmas.Result.{IfOk-weaker}
+use Rattle.std.proofs.lemmas.Result.{IfOk-weaker, IfOk-from_err}
 
 pub from_ok : {T E P : Type 0} (r : Result T E) → IsOk r → OnOk r P → P
 from_ok (Ok x) ok p = p
@@ -26,24 +26,16 @@ pub none_told : {T E : Type 0} (P : Type 0) (r : Result T E) → IsErr r → OnO
 none_told P (Ok x) fails = absurd (cc)
 none_told P (Err e) fails = tt
 
-pub none_answered : {T E : Type 0} (P : T → Type 0) (r : Result T E) → IsErr r → IfOk r P
-none_answered P (Ok x) fails = absurd (cc)
-none_answered P (Err e) fails = tt
-
 module _ {T : Type 0} (IsAnswer : State → T → Type 0) (text : List ℕ) (params : Row) (a b : DbState) (r : Result (Vec Row Global) Error) (q : Result T Error) (h : ShowsRows text params a b r) where
   -- the question in SQL was refused
   pub not_shown : IsErr q → Answers IsAnswer a b q
-  not_shown fails = record { told = told_not spool_schema a b r q fails h.told; same = λ clean stands. none_told _ q fails; exact = λ clean s of. none_answered (IsAnswer s) q fails }
+  not_shown fails = record { told = told_not spool_schema a b r q fails h.told; same = λ clean stands. none_told _ q fails; exact = λ clean s of. IfOk-from_err q (IsAnswer s) fails }
 
   -- it was answered, and its rows are read
   pub then_read : IsOk r → (HasCleanDisk b → (s : State) → IsStateOf s a → IfOk q (IsAnswer s)) → Answers IsAnswer a b q
   then_read ok exact = record { told = told_also spool_schema a b r q ok h.told; same = λ clean stands. to_any q (from_ok r ok (h.same clean)); exact = exact }
 
 -- ---- what answered, and what did not
-
-pub not_not : (b : Bool) → not (not b) ≡ b
-not_not true = refl
-not_not false = refl
 
 pub both_ok : {T E : Type 0} (r : Result T E) (P Q R : T → Type 0) → ((x : T) → P x → Q x → R x) → IfOk r P → IfOk r Q → IfOk r R
 both_ok (Ok x) P Q R step h k = step x h k

@@ -2,6 +2,7 @@
 use Rattle.std.proofs.Common.{◌≡◌, Result, Ok, ℕ, List, []}
 use Rattle.std.specs.Prelude.{Vec, IfOk, IsOk, IsErr}
 use Rattle.std.specs.declared.alloc.Global.{Global}
+use Rattle.std.proofs.lemmas.Result.{IfOk-from_err}
 use Rattle.sqlite.specs.declared.error.Error.{Error}
 use Rattle.sqlite.specs.Held.{Held, state}
 use Rattle.sqlite.specs.Order.{Row}
@@ -13,7 +14,7 @@ use Rattle.uu_rows.proofs.Showing.{answered}
 use Rattle.uu_questions.specs.Answers.{Asks, IsStateOf}
 use Rattle.uu_questions.specs.Reading.{AsksAndReads}
 use Rattle.uu_questions.specs.Walks.{AsksAndWalks, Took}
-use Rattle.uu_questions.proofs.Answering.{then_read, answers_as, beside_first, answer_in, none_ok, none_answered}
+use Rattle.uu_questions.proofs.Answering.{then_read, answers_as, beside_first, answer_in, none_ok}
 use Rattle.uu_questions.proofs.Reading.{read_answers}
 use Rattle.uu_questions.proofs.WalkLemmas.{walk_answers}
 
@@ -40,7 +41,7 @@ module _ {S : Type 0} {g : Ghosts S} where
 
   -- the caller answers nothing
   pub asks_refused : {T U : Type 0} {P : State → T → Type 0} {R : State → U → Type 0} {a b : Held S} {p : Result T Error} {r : Result U Error} → Asks g P a b p → IsErr r → Asks g R a b r
-  asks_refused {p = p} {r = r} h fails = asks_as h (none_ok r p fails) (λ s good it. none_answered _ r fails)
+  asks_refused {p = p} {r = r} h fails = asks_as h (none_ok r p fails) (λ s good it. IfOk-from_err r _ fails)
 
   -- ---- one question after another
 

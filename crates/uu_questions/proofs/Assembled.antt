@@ -1,12 +1,12 @@
 -- What is put together from the rows of systems is these systems.
 use Rattle.std.proofs.Common.{◌≡◌, ℕ, zero, suc, ◌+◌, ◌<◌, ◌==◌, Bool, true, false, cond, List, [], ◌∷◌, ◌++◌, map, filter, take, drop, length, flat_map, refl, sym, ap, subst, ◌∙◌, arith, map-id}
-use Rattle.std.specs.Prelude.{◌&&◌}
 use Rattle.std.specs.List.{AllByRecursion}
 use Rattle.std.proofs.lemmas.Bool.Decides.{nat_tests}
 use Rattle.std.proofs.lemmas.List.{map-append}
 use Rattle.std.proofs.lemmas.Grind.{flat_map-append}
 use Rattle.std.proofs.lemmas.List.Elements.{recursion_from_All, filter-append}
 use Rattle.std.proofs.Math.Seq.{take-append_seam, drop-append_seam}
+use Rattle.std.proofs.Math.Bool.{and-false}
 use Rattle.sqlite.specs.Tree.{IsAscending}
 use Rattle.sqlite_keyed.proofs.ListLemmas.{map-map}
 use Rattle.uu_names.proofs.Basics.{later_other, text_to, all_append}
@@ -47,12 +47,8 @@ later_ranges : (name : List ℕ) (l : LineColumns) (place : ℕ) (lines : List L
 later_ranges name l place [] below = tt
 later_ranges name l place (line ∷ lines) below =
     all_append _ (map (range_columns name place) line.windows) (flat_map ranges_of (placed_from name (place + 1) lines))
-    (ranges_pass (is_range_of_line l) false name place line.windows (λ w. let other : (place == l.place) ≡ false = grind (arith, nat_tests) in rw other (both_false (same_text name l.system))))
+    (ranges_pass (is_range_of_line l) false name place line.windows (λ w. let other : (place == l.place) ≡ false = grind (arith, nat_tests) in rw other (and-false (same_text name l.system))))
     (later_ranges name l (place + 1) lines (omega (arith, below)))
-  where
-    both_false : (b : Bool) → (b && false) ≡ false
-    both_false true = refl
-    both_false false = refl
 
 lines_back : (name : List ℕ) (place : ℕ) (lines : List Line) → lines_from (map line_columns (placed_from name place lines)) (flat_map ranges_of (placed_from name place lines)) ≡ lines
 lines_back name place [] = refl

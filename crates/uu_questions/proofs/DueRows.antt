@@ -1,14 +1,14 @@
 -- The systems that may be called, and the walk along the jobs.
-use Rattle.std.proofs.Common.{◌≡◌, ◌<◌, ◌+◌, ℕ, zero, suc, pos, Bool, true, false, not, cond, ◌&&◌, ◌||◌, List, [], ◌∷◌, ◌++◌, length, take, map, filter, get_or, AllPairs, All, Option, None, refl, ap, sym, subst, ◌∙◌, arith, append-nil, append_assoc, Ordering, Less, Equal, Greater, nat_cmp, IsPermutation}
-use Rattle.std.specs.List.{list_any, AllByRecursion}
+use Rattle.std.proofs.Common.{◌≡◌, ◌<◌, ◌+◌, ℕ, zero, suc, pos, Bool, true, false, not, cond, ◌&&◌, ◌||◌, List, [], ◌∷◌, ◌++◌, map, filter, get_or, AllPairs, All, Option, None, refl, ap, sym, subst, ◌∙◌, arith, append-nil, append_assoc, Ordering, Less, Equal, Greater, nat_cmp, IsPermutation}
+use Rattle.std.specs.List.{AllByRecursion}
 use Rattle.std.specs.Cmp.{IsTotalOrder, ranked}
 use Rattle.std.specs.Ordering.{is_eq, is_gt, ordering_then, MatchOrdering}
 use Rattle.std.proofs.lemmas.Cmp.{nat_cmp_total, then_total}
 use Rattle.std.proofs.lemmas.Bool.Decides.{nat_tests}
-use Rattle.std.proofs.lemmas.List.{take_more, length-append, get_or_append_left}
+use Rattle.std.proofs.lemmas.List.{length-append, get_or_append_left}
 use Rattle.std.proofs.lemmas.List.Kept.{AllPairs-cons}
 use Rattle.std.proofs.lemmas.List.Sorted.{IsPermutation-sym}
-use Rattle.std.proofs.Math.Bool.{or-false}
+use Rattle.std.proofs.Math.Bool.{or-false, and-true}
 use Rattle.sqlite.specs.Order.{Row}
 use Rattle.sqlite.specs.Tree.{IsAscending}
 use Rattle.sqlite.specs.State as db
@@ -17,7 +17,7 @@ use Rattle.sqlite_typed.proofs.TestLemmas.{then_key, last_key}
 use Rattle.sqlite_keyed.specs.Lists.{sort_by, insert_sorted}
 use Rattle.sqlite_keyed.proofs.ListLemmas.{ascending_weaker, ascending-filter}
 use Rattle.sqlite_keyed.proofs.SortLemmas.{IsPermutation-sort_by}
-use Rattle.uu_names.proofs.Basics.{any_push}
+use Rattle.uu_names.proofs.Basics.{any_push, int_cmp-pos, filter_all}
 use Rattle.uu_schema.proofs.Answers.{answer_of}
 use Rattle.uu_schema.proofs.Sorted.{rises_insert_sorted}
 use Rattle.uu_times.specs.declared.moment.Moment.{Moment}
@@ -39,14 +39,8 @@ use Rattle.uu_questions.proofs.Texts.{due_jobs_text}
 use Rattle.uu_rows.proofs.Meanings.{at_places, by_places}
 use Rattle.uu_questions.proofs.Meanings.{due_jobs_means}
 use Rattle.uu_rows.proofs.Typed.{typed_sorted}
-use Rattle.uu_rows.proofs.InTables.{all_pass}
-use Rattle.uu_rows.proofs.Comparing.{numbered, int_cmp_nat}
+use Rattle.uu_rows.proofs.Comparing.{numbered}
 use Rattle.uu_questions.proofs.Listed.{apart, numbers_rise}
-
--- ---- one more of a list
-
-pub any_more : {X : Type 0} (p : X → Bool) (xs : List X) (i : ℕ) (d : X) → i < length xs → list_any p (take (i + 1) xs) ≡ list_any p (take i xs) || p (get_or xs i d)
-any_more p xs i d h = ap (list_any p) (take_more xs i d h) ∙ any_push p (take i xs) (get_or xs i d)
 
 -- ---- one job more
 
@@ -162,24 +156,20 @@ due_rows old new s rows of h =
     let a = answer_of spool_schema due_jobs_text _ _ [] old new due_jobs_means of.stands.schema rows h in
     typed_sorted jobs.tree [] (at_places (2 ∷ 3 ∷ 0 ∷ [])) (by_places (3 ∷ 0 ∷ [])) old.now.trees [] rows refl a (columns job_places) numbered (λ r. refl) (λ r. refl) job_cells (map head_of s.jobs) of.holds.jobs.same
     (λ j. true) (λ j. refl)
-    by_rank (λ x y. then_key (value_cmp-Int (pos x.grade) (pos y.grade) ∙ int_cmp_nat x.grade y.grade) (last_key (value_cmp-Int (pos x.number) (pos y.number) ∙ int_cmp_nat x.number y.number)))
+    by_rank (λ x y. then_key (value_cmp-Int (pos x.grade) (pos y.grade) ∙ int_cmp-pos x.grade y.grade) (last_key (value_cmp-Int (pos x.number) (pos y.number) ∙ int_cmp-pos x.number y.number)))
     (ascending_weaker _ (λ x y. is_eq (by_rank x y) ≡ false) apart _ (ascending-filter _ (λ j. true) _ (numbers_rise s of.good)))
-    ∙ ap (λ l. map (λ j. due_cells (due_of j)) (by_grade l)) (all_pass (map head_of s.jobs))
+    ∙ ap (λ l. map (λ j. due_cells (due_of j)) (by_grade l)) (filter_all (map head_of s.jobs))
 
 module _ {X : Type 0} (limit : X → List ℕ → Option ℕ) (dues : X → List Due)
     (none : (rows : List SystemRow) (at : Moment) → AreDue rows [] at [])
     (more : More)
     (any_order : (rows : List SystemRow) (at : Moment) (jobs ordered : List JobHead) (dues : List Due) → IsPermutation jobs ordered → AreDue rows ordered at dues → AreDue rows jobs at dues) where
-  and-not : (b : Bool) → b ≡ (b && true)
-  and-not true = refl
-  and-not false = refl
-
   pub are_due : (old new : db.State) (s : State) (shown : List Row) (before after : X) → IsStateOf s old → db.Shown due_jobs_text [] old new shown → Took (Walked limit dues) before shown after → dues before ≡ []
       → (rows : List SystemRow) (at : Moment) → ((name : List ℕ) (grade : ℕ) → is_within (limit before name) grade ≡ may_be_called rows at name grade) → AreDue rows (map head_of s.jobs) at (dues after)
   are_due old new s shown before after of h took start rows at callable =
       let heads = map head_of s.jobs in
       let ordered = by_grade heads in
-      let left : IsLeft (may_be_called rows at) (limit before) (dues before) = λ name grade. callable name grade ∙ and-not (may_be_called rows at name grade) ∙ ap (λ l. may_be_called rows at name grade && not (is_listed l name)) (sym start) in
+      let left : IsLeft (may_be_called rows at) (limit before) (dues before) = λ name grade. callable name grade ∙ sym (and-true (may_be_called rows at name grade)) ∙ ap (λ l. may_be_called rows at name grade && not (is_listed l name)) (sym start) in
       let went = subst (λ rs. Took (Walked limit dues) before rs after) (due_rows old new s shown of h) took in
       any_order rows at heads ordered (dues after) (IsPermutation-sym _ _ (IsPermutation-sort_by by_rank ranks_total heads))
       (walked_on limit dues more rows at [] ordered before after (in_order s of.good) went left (subst (AreDue rows [] at) (sym start) (none rows at)))

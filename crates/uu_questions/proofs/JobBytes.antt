@@ -1,38 +1,30 @@
 -- The bytes of a job are those of its pieces.
-use Rattle.std.proofs.Common.{◌≡◌, ℕ, zero, suc, ◌+◌, ◌<◌, ◌==◌, List, [], ◌∷◌, ◌++◌, true, false, cond, filter, flat_map, length, drop, refl, sym, ap, subst, ◌∙◌, Option, Some, None, option_map, Vec, arith, append-nil}
+use Rattle.std.proofs.Common.{◌≡◌, ℕ, ◌+◌, ◌<◌, List, [], ◌∷◌, ◌++◌, true, false, cond, filter, flat_map, refl, ap, ◌∙◌, Option, Some, None, option_map, Vec, arith, append-nil}
 use Rattle.std.specs.Prelude.{find}
 use Rattle.std.specs.declared.alloc.Global.{Global}
-use Rattle.std.specs.List.{AllByRecursion}
 use Rattle.std.proofs.lemmas.Bool.{cases_Bool}
 use Rattle.std.proofs.lemmas.Bool.Decides.{nat_tests}
 use Rattle.std.proofs.Common.{inl, inr}
 use Rattle.std.proofs.lemmas.List.Elements.{filter-append}
+use Rattle.uu_tables.proofs.JobLemmas.{pieces_go}
 use Rattle.sqlite.specs.Tree.{IsAscending}
 use Rattle.sqlite_keyed.proofs.ListLemmas.{filter_none, all_weaker}
-use Rattle.uu_check.proofs.Rising.{as_pieces}
 use Rattle.uu_check.proofs.OneState.{bytes_back}
 use Rattle.uu_questions.proofs.Assembled.{filter_all_or_none}
 use Rattle.uu_core.specs.declared.job.JobHead.{JobHead}
 use Rattle.uu_core.specs.State.{State, Job, IsWellFormed, head_of, job_at, is_job}
-use Rattle.uu_tables.specs.Tables.{tables_of, pieces_of, piece_count}
-use Rattle.uu_check.proofs.Cuts.{pieces_from, bytes_of}
+use Rattle.uu_tables.specs.Tables.{tables_of, pieces_of}
+use Rattle.uu_check.proofs.Cuts.{bytes_of}
 use Rattle.uu_questions.specs.Listing.{handed_out, head_and_bytes}
 use Rattle.uu_rows.proofs.InOrder.{ascending_pairs}
 use Rattle.uu_questions.proofs.Listed.{is_piece_of}
 
 -- ---- those of one job
 
-own_from : (n job place count : ℕ) (bytes : List ℕ) → AllByRecursion (λ p. is_piece_of n p ≡ (job == n)) (pieces_from job place count bytes)
-own_from n job place zero bytes = tt
-own_from n job place (suc count) bytes = (refl, own_from n job (place + 1) count (drop 16384 bytes))
-
-own_pieces : (n : ℕ) (j : Job) → AllByRecursion (λ p. is_piece_of n p ≡ is_job n j) (pieces_of j)
-own_pieces n j = subst (AllByRecursion (λ p. is_piece_of n p ≡ is_job n j)) (sym (as_pieces j)) (own_from n j.number 0 (piece_count (length j.bytes)) j.bytes)
-
 of_job : (n : ℕ) (jobs : List Job) → filter (is_piece_of n) (flat_map pieces_of jobs) ≡ flat_map pieces_of (filter (is_job n) jobs)
 of_job n [] = refl
 of_job n (j ∷ jobs) =
-    filter-append (is_piece_of n) (pieces_of j) (flat_map pieces_of jobs) ∙ (λ i. filter_all_or_none (is_piece_of n) (is_job n j) (pieces_of j) (own_pieces n j) i ++ of_job n jobs i)
+    filter-append (is_piece_of n) (pieces_of j) (flat_map pieces_of jobs) ∙ (λ i. filter_all_or_none (is_piece_of n) (is_job n j) (pieces_of j) (pieces_go n j) i ++ of_job n jobs i)
     ∙ elim (is_job n j) as (λ b. cond b (pieces_of j) [] ++ flat_map pieces_of (filter (is_job n) jobs) ≡ flat_map pieces_of (cond b (j ∷ filter (is_job n) jobs) (filter (is_job n) jobs))) [ true ↦ refl | false ↦ refl ]
 
 -- if numbers rise, a number is that of one job

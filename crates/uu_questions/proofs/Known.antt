@@ -20,7 +20,7 @@ use Rattle.sqlite.proofs.Callers.{one_permutation}
 use Rattle.sqlite_keyed.proofs.ListLemmas.{none_counted, slice_get-filter, ascending_weaker, ascending-filter, ascending-map}
 use Rattle.sqlite_typed.proofs.TestLemmas.{at_ints, at_texts, last_term, last_key}
 use Rattle.sqlite_value.proofs.OrderLemmas.{value_cmp-Int}
-use Rattle.uu_names.proofs.Basics.{any_mapped}
+use Rattle.uu_names.proofs.Basics.{any_mapped, int_cmp-pos, lt-nat_cmp, int_eq-pos, find-map}
 use Rattle.uu_schema.proofs.Terms.{where_is}
 use Rattle.uu_schema.proofs.Asks.{ordered}
 use Rattle.uu_schema.proofs.Answers.{answer_of, answer_moved}
@@ -37,13 +37,13 @@ use Rattle.uu_questions.specs.Answers.{IsStateOf}
 use Rattle.uu_questions.proofs.Texts.{next_text, known_text, waiting_text, head_text}
 use Rattle.uu_rows.proofs.Meanings.{at_places, by_places, is_first}
 use Rattle.uu_questions.proofs.Meanings.{next_means, known_means, waiting_means, head_means}
-use Rattle.uu_rows.proofs.Comparing.{beside, numbered, int_cmp_nat, below_is, int_eq_nat}
+use Rattle.uu_rows.proofs.Comparing.{beside, numbered}
 use Rattle.uu_rows.proofs.Typed.{typed_moved, typed_only}
 use Rattle.uu_rows.specs.Readable.{IsTypedHead}
 use Rattle.uu_rows.proofs.InOrder.{ascending_pairs}
 use Rattle.uu_rows.proofs.Back.{same_one, head_back, head_returns}
 use Rattle.uu_rows.proofs.Heads.{heads_good}
-use Rattle.uu_questions.proofs.Finding.{found_good, found_mapped}
+use Rattle.uu_questions.proofs.Finding.{found_good}
 
 -- ---- the next number
 
@@ -113,10 +113,10 @@ head_rows old new s n rows of h =
     let a = answer_of spool_schema head_text _ _ params old new head_means of.stands.schema rows h in
     let out : JobHead → Output = λ j. output q (params ∷ numbered (job_cells j) ∷ []) in
     let less : (x y : JobHead) → x.number < y.number → output_cmp q (out x) (out y) ≡ Less = λ x y k.
-    last_key (value_cmp-Int (pos x.number) (pos y.number)) ∙ int_cmp_nat x.number y.number ∙ below_is x.number y.number k in
+    last_key (value_cmp-Int (pos x.number) (pos y.number)) ∙ int_cmp-pos x.number y.number ∙ lt-nat_cmp x.number y.number k in
     let rising : IsAscending (λ (x y : JobHead). x.number < y.number) (map head_of s.jobs) = ascending-map (λ (x y : JobHead). x.number < y.number) head_of s.jobs (ascending_pairs (λ (x y : Job). x.number < y.number) s.jobs of.good.rising) in
     typed_only jobs.tree tests (at_places job_places) (by_places (0 ∷ [])) trees params rows refl a (columns job_places) numbered (λ r. refl) (λ r. refl) job_cells (map head_of s.jobs) of.holds.jobs.same
-    (has_number n) (λ j. last_term (at_ints false Eq (pos j.number) (pos n)) ∙ int_eq_nat j.number n)
+    (has_number n) (λ j. last_term (at_ints false Eq (pos j.number) (pos n)) ∙ int_eq-pos j.number n)
     (ascending_weaker _ (λ x y. output_cmp q (out x) (out y) ≡ Less) less _ (ascending-filter _ (has_number n) (map head_of s.jobs) rising))
 
 -- the first of the rows is the head of the job of this number
@@ -125,4 +125,4 @@ pub head_found : (old new : db.State) (s : State) (n : ℕ) (rows : List Row) (f
 head_found old new s n rows found of h good is =
     let first = ap (λ rs. slice_get rs 0) (head_rows old new s n rows of h) ∙ slice_get-map job_cells (filter (has_number n) (map head_of s.jobs)) 0 ∙ ap (option_map job_cells) (slice_get-filter (has_number n) (map head_of s.jobs)) in
     same_one job_cells head_back IsTypedHead head_returns found (find (has_number n) (map head_of s.jobs)) good (found_good IsTypedHead (has_number n) (map head_of s.jobs) (heads_good s of.good)) (is ∙ first)
-    ∙ found_mapped (has_number n) head_of s.jobs
+    ∙ find-map (has_number n) head_of s.jobs

@@ -11,7 +11,7 @@ use Rattle.sqlite.specs.State as db
 use Rattle.sqlite_sql.specs.declared.ops.CompareOp.TheVariants.{Eq}
 use Rattle.sqlite_typed.proofs.TestLemmas.{at_ints, at_texts, then_term, last_term}
 use Rattle.sqlite_keyed.proofs.ListLemmas.{slice_get-filter}
-use Rattle.uu_names.proofs.Basics.{later_other, text_from, find_same}
+use Rattle.uu_names.proofs.Basics.{later_other, text_from, find_same, int_eq-pos, find-map}
 use Rattle.uu_check.proofs.Lists.{all_flat_of}
 use Rattle.uu_schema.proofs.Terms.{where_is}
 use Rattle.uu_core.specs.declared.custody.Taken.{Taken}
@@ -29,10 +29,8 @@ use Rattle.uu_questions.specs.Links.{below_in, taken_in}
 use Rattle.uu_questions.proofs.Texts.{link_text, taken_text}
 use Rattle.uu_questions.proofs.Meanings.{link_means, taken_means}
 use Rattle.uu_rows.proofs.InOrder.{ascending_pairs}
-use Rattle.uu_questions.proofs.Finding.{found_mapped}
 use Rattle.uu_questions.proofs.Rising.{links_rise, taken_rise}
 use Rattle.uu_rows.proofs.Back.{same_one, link_back, link_returns, taken_back, taken_returns}
-use Rattle.uu_rows.proofs.Comparing.{int_eq_nat}
 use Rattle.uu_rows.proofs.InTables.{links_are, taken_are}
 
 -- ---- what is found in lists, one after the other
@@ -86,7 +84,7 @@ taken_found name number (l ∷ ls) up = by_test (is_link name l) refl (taken_fou
         let same : l.name ≡ name = text_from l.name name e in
         let others : AllByRecursion (λ r. is_row name number r ≡ false) (flat_map taken_rows ls) = all_flat_of (λ r. is_row name number r ≡ false) (Before l) taken_rows
         (λ x before. each_made (λ r. is_row name number r ≡ false) (taken_columns x.name) (λ t. ap (λ b. b && (t.number == number)) (ap (same_text x.name) (sym same) ∙ later_other l.name x.name before)) x.taken) ls up.0 in
-        ap taken_in (find_front (is_row name number) (taken_rows l) (flat_map taken_rows ls) others ∙ found_mapped (is_row name number) (taken_columns l.name) l.taken)
+        ap taken_in (find_front (is_row name number) (taken_rows l) (flat_map taken_rows ls) others ∙ find-map (is_row name number) (taken_columns l.name) l.taken)
         ∙ mapped (find (λ t. is_row name number (taken_columns l.name t)) l.taken) ∙ find_same (λ t. is_row name number (taken_columns l.name t)) (is_taken number) (λ t. ap (λ b. b && (t.number == number)) e) l.taken
     by_test false e rest = ap taken_in (find_back (is_row name number) (taken_rows l) (flat_map taken_rows ls) (each_made (λ r. is_row name number r ≡ false) (taken_columns l.name) (λ t. ap (λ b. b && (t.number == number)) e) l.taken)) ∙ rest
 
@@ -113,6 +111,6 @@ module _ (old new : db.State) (s : State) (rows : List Row) (of : IsStateOf s ol
       let p = is_row name number in
       let all = (tables_of s).taken in
       let shown = taken_are spool_schema old new rows of.stands.schema taken_text _ (Text name ∷ Int (pos number) ∷ []) (where_is 1 0 ∷ where_is 2 1 ∷ []) h taken_means (λ r. refl) all of.holds.taken.same (taken_rise s of.good) p
-      (λ x. then_term (at_texts false Eq x.system name ∙ is_eq-slice_cmp x.system name) (last_term (at_ints false Eq (pos x.taken.number) (pos number) ∙ int_eq_nat x.taken.number number))) in
+      (λ x. then_term (at_texts false Eq x.system name ∙ is_eq-slice_cmp x.system name) (last_term (at_ints false Eq (pos x.taken.number) (pos number) ∙ int_eq-pos x.taken.number number))) in
       let first = ap (λ rs. slice_get rs 0) shown ∙ slice_get-map taken_cells (filter p all) 0 ∙ ap (option_map taken_cells) (slice_get-filter p all) in
       ap taken_in (same_one taken_cells taken_back (λ _. Unit {0}) (λ x good. taken_returns x) found (find p all) (any found) (any (find p all)) (is ∙ first)) ∙ taken_found name number s.links links_up

@@ -6,6 +6,7 @@ use Rattle.std.specs.Ordering.{is_eq, ordering_then}
 use Rattle.std.proofs.lemmas.List.Sorted.{IsPermutation-sym}
 use Rattle.std.proofs.lemmas.Map.Text.{is_eq-slice_cmp}
 use Rattle.std.proofs.lemmas.Option.{slice_get-map}
+use Rattle.uu_names.proofs.Basics.{int_cmp-pos, int_eq-pos, lt-nat_cmp, find-map}
 use Rattle.sqlite.specs.declared.types.Value.{Value}
 use Rattle.sqlite.specs.declared.types.Value.TheVariants.{Null, Int, Text, Blob}
 use Rattle.sqlite.specs.Order.{Row}
@@ -43,13 +44,12 @@ use Rattle.uu_rows.specs.Readable.{IsTypedHead}
 use Rattle.uu_questions.proofs.Texts.{all_jobs_text, jobs_text, pieces_text, entry_text}
 use Rattle.uu_rows.proofs.Meanings.{at_places, by_places}
 use Rattle.uu_questions.proofs.Meanings.{fit_terms, all_jobs_means, jobs_means, pieces_means, entry_means}
-use Rattle.uu_rows.proofs.Comparing.{beside, numbered, int_cmp_nat, int_eq_nat, below_is}
+use Rattle.uu_rows.proofs.Comparing.{beside, numbered}
 use Rattle.uu_rows.proofs.Typed.{typed_sorted, typed_only}
 use Rattle.uu_rows.proofs.InTables.{entries_are}
 use Rattle.uu_rows.proofs.InOrder.{ascending_pairs}
 use Rattle.uu_rows.proofs.Back.{same_all, same_one, head_back, head_returns, entry_back, entry_returns}
 use Rattle.uu_rows.proofs.Heads.{heads_good}
-use Rattle.uu_questions.proofs.Finding.{found_mapped}
 use Rattle.uu_questions.proofs.Rising.{pieces_rise}
 
 -- what the question is given: the system and the user, each NULL if none is wanted
@@ -77,7 +77,7 @@ no_tie_then Equal p h = h
 no_tie_then Greater p h = refl
 
 pub apart : (x y : JobHead) → x.number < y.number → is_eq (by_rank x y) ≡ false
-apart x y h = no_tie_then (nat_cmp x.grade y.grade) (nat_cmp x.number y.number) (ap is_eq (below_is x.number y.number h))
+apart x y h = no_tie_then (nat_cmp x.grade y.grade) (nat_cmp x.number y.number) (ap is_eq (lt-nat_cmp x.number y.number h))
 
 pub numbers_rise : (s : State) → IsWellFormed s → IsAscending (λ (x y : JobHead). x.number < y.number) (map head_of s.jobs)
 numbers_rise s good = ascending-map (λ (x y : JobHead). x.number < y.number) head_of s.jobs (ascending_pairs (λ (x y : Job). x.number < y.number) s.jobs good.rising)
@@ -98,7 +98,7 @@ jobs_listed old new s f rows of h found good read =
     let a = answer_of spool_schema jobs_text _ _ (sought f) old new jobs_means of.stands.schema rows h in
     let out : JobHead → Output = λ j. output q (sought f ∷ numbered (job_cells j) ∷ []) in
     let is : (x y : JobHead) → output_cmp q (out x) (out y) ≡ by_rank x y = λ x y.
-    then_key (value_cmp-Int (pos x.grade) (pos y.grade)) (last_key (value_cmp-Int (pos x.number) (pos y.number))) ∙ ap₂ ordering_then (int_cmp_nat x.grade y.grade) (int_cmp_nat x.number y.number) in
+    then_key (value_cmp-Int (pos x.grade) (pos y.grade)) (last_key (value_cmp-Int (pos x.number) (pos y.number))) ∙ ap₂ ordering_then (int_cmp-pos x.grade y.grade) (int_cmp-pos x.number y.number) in
     let sorted = typed_sorted jobs.tree fit_terms (at_places job_places) order old.now.trees (sought f) rows refl a (columns job_places) numbered (λ r. refl) (λ r. refl) job_cells hs of.holds.jobs.same
     (fits f) (λ j. then_term (wanted_test f.system j.system) (last_term (wanted_test f.user j.user))) by_rank is
     (ascending-filter _ (fits f) hs (ascending_weaker _ (λ x y. is_eq (by_rank x y) ≡ false) apart hs (numbers_rise s of.good))) in
@@ -113,7 +113,7 @@ all_jobs_listed old new s f all rows of h found good read =
     let a = answer_of spool_schema all_jobs_text _ _ [] old new all_jobs_means of.stands.schema rows h in
     let out : JobHead → Output = λ j. output q ([] ∷ numbered (job_cells j) ∷ []) in
     let is : (x y : JobHead) → output_cmp q (out x) (out y) ≡ by_rank x y = λ x y.
-    then_key (value_cmp-Int (pos x.grade) (pos y.grade)) (last_key (value_cmp-Int (pos x.number) (pos y.number))) ∙ ap₂ ordering_then (int_cmp_nat x.grade y.grade) (int_cmp_nat x.number y.number) in
+    then_key (value_cmp-Int (pos x.grade) (pos y.grade)) (last_key (value_cmp-Int (pos x.number) (pos y.number))) ∙ ap₂ ordering_then (int_cmp-pos x.grade y.grade) (int_cmp-pos x.number y.number) in
     let sorted = typed_sorted jobs.tree [] (at_places job_places) order old.now.trees [] rows refl a (columns job_places) numbered (λ r. refl) (λ r. refl) job_cells hs of.holds.jobs.same
     (fits f) (λ j. ap₂ (λ system user. is_wanted system j.system && is_wanted user j.user) (sym all.0) (sym all.1)) by_rank is
     (ascending-filter _ (fits f) hs (ascending_weaker _ (λ x y. is_eq (by_rank x y) ≡ false) apart hs (numbers_rise s of.good))) in
@@ -134,7 +134,7 @@ entry_found old new s host rows of h found read =
     let is = entries_are spool_schema old new rows of.stands.schema entry_text _ (Text host ∷ []) (where_is 1 0 ∷ []) h entry_means (λ r. refl) es of.holds.entries.same rise p (λ e. last_term (at_texts false Eq e.host host ∙ is_eq-slice_cmp e.host host)) in
     same_one entry_cells entry_back (λ _. ⊤) (λ e _. entry_returns e) found (find p es) (any_some found) (any_some (find p es))
     (read ∙ ap (λ rs. slice_get rs 0) is ∙ slice_get-map entry_cells (filter p es) 0 ∙ ap (option_map entry_cells) (slice_get-filter p es))
-    ∙ found_mapped p entry_columns s.entries
+    ∙ find-map p entry_columns s.entries
 
 -- ---- the bytes of a job
 
@@ -153,7 +153,7 @@ pieces_found old new s n rows of h =
     let q : Query = ordered pieces.tree tests (at_places (3 ∷ [])) order in
     let out : Piece → Output = λ x. output q (params ∷ beside (piece_cells x) ∷ []) in
     let less : (x y : Piece) → piece_cmp x y ≡ Less → output_cmp q (out x) (out y) ≡ Less = λ x y e.
-    then_key (value_cmp-Int (pos x.job) (pos y.job) ∙ int_cmp_nat x.job y.job) (last_key (value_cmp-Int (pos x.place) (pos y.place)) ∙ int_cmp_nat x.place y.place) ∙ e in
+    then_key (value_cmp-Int (pos x.job) (pos y.job) ∙ int_cmp-pos x.job y.job) (last_key (value_cmp-Int (pos x.place) (pos y.place)) ∙ int_cmp-pos x.place y.place) ∙ e in
     typed_only pieces.tree tests (at_places (3 ∷ [])) order old.now.trees params rows refl (answer_of spool_schema pieces_text q _ params old new pieces_means of.stands.schema rows h) (columns piece_places) beside (λ r. refl) (λ r. refl)
-    piece_cells ps of.holds.pieces.same (is_piece_of n) (λ p. last_term (at_ints false Eq (pos p.job) (pos n)) ∙ int_eq_nat p.job n)
+    piece_cells ps of.holds.pieces.same (is_piece_of n) (λ p. last_term (at_ints false Eq (pos p.job) (pos n)) ∙ int_eq-pos p.job n)
     (ascending-filter _ (is_piece_of n) ps (ascending_weaker _ (λ x y. output_cmp q (out x) (out y) ≡ Less) less ps (pieces_rise s of.good)))

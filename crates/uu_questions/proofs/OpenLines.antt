@@ -1,17 +1,17 @@
 -- Which systems may be called, from the lines whose windows hold the minute and from the systems
 -- that are left alone.
-use Rattle.std.proofs.Common.{◌≡◌, ◌+◌, ◌==◌, ℕ, Bool, true, false, not, cond, leb, ◌&&◌, ◌||◌, max, fold, List, [], ◌∷◌, Option, None, if◌then◌else◌, map, filter, flat_map, refl, ap, sym, ◌∙◌, inl, inr, arith, Less, Equal, nat_cmp}
-use Rattle.std.specs.List.{AllByRecursion, list_any, reduce}
+use Rattle.std.proofs.Common.{◌≡◌, ◌+◌, ◌==◌, ℕ, Bool, true, false, not, cond, leb, ◌&&◌, ◌||◌, List, [], ◌∷◌, Option, None, if◌then◌else◌, map, filter, flat_map, refl, ap, sym, ◌∙◌, inl, inr, Less, Equal, nat_cmp}
+use Rattle.std.specs.List.{AllByRecursion, list_any}
 use Rattle.std.specs.Ordering.{ordering_then}
 use Rattle.std.specs.Cmp.Lexicographic.{slice_cmp}
 use Rattle.std.proofs.lemmas.Bool.{and_parts, cases_Bool, false_from_ne_true, eqb-true, eq-eqb}
-use Rattle.std.proofs.lemmas.Bool.Decides.{nat_tests}
 use Rattle.std.proofs.lemmas.List.Folds.{list_any-append}
 use Rattle.std.proofs.lemmas.Cmp.{tied_itself, nat_list_cmp_total, nat_cmp_total}
-use Rattle.std.proofs.Math.Bool.{or_assoc, and-false, or-false}
+use Rattle.std.proofs.Math.Bool.{and-false, or-false, and-true, and_comm}
 use Rattle.sqlite.specs.Tree.{IsAscending}
 use Rattle.sqlite_keyed.proofs.ListLemmas.{all_weaker, all_both, any_from_none, ascending_weaker}
-use Rattle.uu_names.proofs.Basics.{text_from, text_to, any_mapped}
+use Rattle.uu_names.proofs.Basics.{text_from, text_to, any_mapped, any_from_reduce_max}
+use Rattle.sqlite_keyed.proofs.SliceLemmas.{list_any_same}
 use Rattle.uu_times.specs.declared.system.Line.{Line}
 use Rattle.uu_times.specs.declared.moment.Moment.{Moment}
 use Rattle.uu_times.specs.Ranges.{within, holds}
@@ -26,21 +26,11 @@ use Rattle.uu_tables.specs.Tables.{PlacedLine, system_columns, line_columns, ran
 use Rattle.uu_questions.specs.Dues.{lets_through, is_open, is_among}
 use Rattle.uu_questions.proofs.Rising.{LineBefore, names_rise, placed_rise}
 
--- ---- truths
-
-and-true : (b : Bool) → b && true ≡ b
-and-true true = refl
-and-true false = refl
-
 -- ---- tests of lists
 
 pub any_same : {X : Type 0} (p q : X → Bool) → ((x : X) → p x ≡ q x) → (xs : List X) → list_any p xs ≡ list_any q xs
 any_same p q h [] = refl
 any_same p q h (x ∷ xs) = λ i. h x i || any_same p q h xs i
-
-any_same_on : {X : Type 0} (p q : X → Bool) (xs : List X) → AllByRecursion (λ x. p x ≡ q x) xs → list_any p xs ≡ list_any q xs
-any_same_on p q [] h = refl
-any_same_on p q (x ∷ xs) h = λ i. h.0 i || any_same_on p q xs h.1 i
 
 never : {X : Type 0} (xs : List X) → list_any (λ (x : X). false) xs ≡ false
 never [] = refl
@@ -70,24 +60,13 @@ between true true c q xs = any_and q c xs
 
 -- ---- the limit of some lines
 
-greater : (grade x y : ℕ) → leb grade (max x y) ≡ (leb grade x || leb grade y)
-greater grade x y = grind (arith, nat_tests)
-
-within_fold : (grade x : ℕ) (xs : List ℕ) → leb grade (fold max x xs) ≡ (leb grade x || list_any (leb grade) xs)
-within_fold grade x [] = sym (or-false (leb grade x))
-within_fold grade x (y ∷ xs) = within_fold grade (max x y) xs ∙ ap (λ b. b || list_any (leb grade) xs) (greater grade x y) ∙ or_assoc (leb grade x) (leb grade y) (list_any (leb grade) xs)
-
-within_any : (grade : ℕ) (grades : List ℕ) → is_within (reduce max grades) grade ≡ list_any (leb grade) grades
-within_any grade [] = refl
-within_any grade (g ∷ grades) = within_fold grade g grades
-
 module _ (week : ℕ) (name : List ℕ) (grade : ℕ) where
   abbrev lets : Line → Bool
   lets line = holds line.windows week && leb grade line.grade
 
   within_lines : (lines : List Line) → is_within (limit_at lines week) grade ≡ list_any lets lines
   within_lines lines =
-      within_any grade (map (λ (l : Line). l.grade) (lines_at lines week)) ∙ any_mapped (leb grade) (λ (l : Line). l.grade) (lines_at lines week)
+      any_from_reduce_max grade (λ o. is_within o grade) refl (λ m. refl) (map (λ (l : Line). l.grade) (lines_at lines week)) ∙ any_mapped (leb grade) (λ (l : Line). l.grade) (lines_at lines week)
       ∙ any_kept (λ (l : Line). leb grade l.grade) (λ (l : Line). holds l.windows week) lines
 
   -- the line is the system's, and its windows hold the minute
@@ -175,7 +154,7 @@ module _ (week : ℕ) (name : List ℕ) (grade : ℕ) where
   joined_open ps rise =
       any_mapped (λ l. list_any (λ r. joined l r && lets_line l) (flat_map ranges_of ps)) line_columns ps
       ∙ any_same (λ p. list_any (λ r. joined (line_columns p) r && lets_line (line_columns p)) (flat_map ranges_of ps)) (λ p. list_any (here held_by p) ps && lets_line (line_columns p)) (λ p. line_opens (line_columns p) ps) ps
-      ∙ any_same_on (λ p. list_any (here held_by p) ps && lets_line (line_columns p)) (opens week name grade) ps
+      ∙ list_any_same (λ p. list_any (here held_by p) ps && lets_line (line_columns p)) (opens week name grade) ps
       (all_weaker (λ p. list_any (here held_by p) ps ≡ held_by p) (λ p. (list_any (here held_by p) ps && lets_line (line_columns p)) ≡ opens week name grade p) (λ p is. ap (λ b. b && lets_line (line_columns p)) is) ps
       (one_line held_by ps (ascending_weaker LineBefore Apart differ ps rise)))
 
@@ -226,15 +205,11 @@ module _ (at : Moment) (name : List ℕ) (grade : ℕ) where
   all_held [] rise = refl
   all_held (row ∷ rows) rise = elim (cases_Bool (is_system name row)) [ inl named ↦ found row rows rise.0 named | inr unnamed ↦ passed row rows unnamed (all_held rows rise.1) ]
 
-  and-comm : (a b : Bool) → (a && b) ≡ (b && a)
-  and-comm true b = sym (and-true b)
-  and-comm false b = sym (and-false b)
-
   among : (rows : List SystemRow) → is_among (map system_columns (filter (λ row. is_held row.call at.second) rows)) name ≡ list_any kept rows
   among rows =
       any_mapped (λ (x : SystemColumns). same_text x.name name) system_columns (filter (λ row. is_held row.call at.second) rows)
       ∙ any_kept (λ row. is_system name row) (λ row. is_held row.call at.second) rows
-      ∙ any_same (λ row. is_held row.call at.second && is_system name row) kept (λ row. and-comm (is_held row.call at.second) (is_system name row)) rows
+      ∙ any_same (λ row. is_held row.call at.second && is_system name row) kept (λ row. and_comm (is_held row.call at.second) (is_system name row)) rows
 
   -- a system may be called for a grade if one of its lines allows it and it isn't left alone
   pub called : (s : State) → IsWellFormed s → (lines : List LineColumns) (held : List SystemColumns) → lets_through lines name grade ≡ is_open s.systems at.week name grade

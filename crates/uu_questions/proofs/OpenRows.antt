@@ -1,7 +1,7 @@
 -- What the answers of the two questions on which systems may be called say of the state.
 use Rattle.std.proofs.Common.{◌≡◌, ◌≤◌, ◌+◌, ◌+ℤ◌, ℕ, pos, Bool, true, false, cond, leb, ◌&&◌, List, [], ◌∷◌, map, filter, flat_map, refl, ap, sym, ◌∙◌, arith}
-use Rattle.std.specs.Prelude.{int_le, int_lt, nat_lt}
-use Rattle.std.specs.List.{AllByRecursion, list_any, list_all}
+use Rattle.std.specs.Prelude.{int_le}
+use Rattle.std.specs.List.{list_any, list_all}
 use Rattle.std.specs.List.Sorted.{IsPermutation}
 use Rattle.std.proofs.lemmas.List.Sorted.{IsPermutation-map, list_any-IsPermutation}
 use Rattle.std.proofs.lemmas.Int.{ints}
@@ -21,7 +21,8 @@ use Rattle.sqlite_sql.specs.declared.ops.BinaryOp.TheVariants.{Compare}
 use Rattle.sqlite_sql.specs.declared.ops.CompareOp.TheVariants.{Eq, Le, Lt}
 use Rattle.sqlite_typed.proofs.TestLemmas.{truth_or, at_ints, at_texts, then_term, last_term, sum_fits}
 use Rattle.sqlite_keyed.proofs.ListLemmas.{filter-map, all_weaker}
-use Rattle.uu_names.proofs.Basics.{any_mapped}
+use Rattle.uu_names.proofs.Basics.{any_mapped, int_eq-pos, int_lt-pos}
+use Rattle.sqlite_trees.proofs.ListLemmas.{filter_same}
 use Rattle.uu_schema.proofs.Answers.{answer_of}
 use Rattle.uu_core.specs.declared.system.SystemRow.{SystemRow}
 use Rattle.uu_core.specs.State.{State, IsCall, same_text}
@@ -35,7 +36,7 @@ use Rattle.uu_schema.specs.Keyed.{columns}
 use Rattle.uu_schema.specs.Held.{line_places, range_places}
 use Rattle.uu_schema.specs.Cells.{system_cells, line_cells, range_cells}
 use Rattle.uu_rows.proofs.Back.{text_back, number_back, system_back, system_returns}
-use Rattle.uu_rows.proofs.Comparing.{beside, int_eq_nat}
+use Rattle.uu_rows.proofs.Comparing.{beside}
 use Rattle.uu_rows.proofs.InTables.{systems_are}
 use Rattle.uu_questions.specs.Answers.{IsStateOf}
 use Rattle.uu_questions.specs.Dues.{lets_through, is_open}
@@ -49,14 +50,7 @@ use Rattle.uu_questions.proofs.SystemRows.{same_cells, systems_rise}
 le_nat : (a b : ℕ) → int_le (pos a) (pos b) ≡ leb a b
 le_nat a b = grind (arith, ints, nat_tests)
 
-lt_nat : (a b : ℕ) → int_lt (pos a) (pos b) ≡ nat_lt a b
-lt_nat a b = grind (arith, ints, nat_tests)
-
 -- ---- the systems that are left alone
-
-keep_same : {X : Type 0} (p q : X → Bool) (xs : List X) → AllByRecursion (λ x. p x ≡ q x) xs → filter p xs ≡ filter q xs
-keep_same p q [] h = refl
-keep_same p q (x ∷ xs) h = λ i. cond (h.0 i) (x ∷ keep_same p q xs h.1 i) (keep_same p q xs h.1 i)
 
 fits : (last wait : ℕ) → last ≤ 4102444800 → wait ≤ 31536000 → fits_i64 (pos last +ℤ pos wait) ≡ true
 fits last wait a b = search (arith, a, b)
@@ -66,7 +60,7 @@ held_test second row call =
     let last = row.call.last in
     let wait = row.call.wait in
     then_term (at_ints false Le (pos last) (pos second) ∙ le_nat last second)
-    (last_term (ap (λ v. truth_or false (binary (Compare Lt Binary) (Int (pos second)) v)) (sum_fits (pos last) (pos wait) (fits last wait call.last call.wait)) ∙ at_ints false Lt (pos second) (pos last +ℤ pos wait) ∙ lt_nat second (last + wait)))
+    (last_term (ap (λ v. truth_or false (binary (Compare Lt Binary) (Int (pos second)) v)) (sum_fits (pos last) (pos wait) (fits last wait call.last call.wait)) ∙ at_ints false Lt (pos second) (pos last +ℤ pos wait) ∙ int_lt-pos second (last + wait)))
 
 pub held_found : (old new : db.State) (s : State) (second : ℕ) (rows : List Row) → IsStateOf s old → db.Shown held_text (Int (pos second) ∷ []) old new rows → (found : List SystemColumns) → rows ≡ map system_cells found
     → found ≡ map system_columns (filter (λ row. is_held row.call second) s.systems)
@@ -77,7 +71,7 @@ held_found old new s second rows of h found read =
     same_cells system_cells system_back system_returns found _ (sym read
     ∙ systems_are spool_schema old new rows of.stands.schema held_text _ params held_terms h held_means (λ r. refl) (map system_columns s.systems) of.holds.systems.same (systems_rise s of.good) passes (λ x. refl))
     ∙ filter-map passes system_columns s.systems
-    ∙ ap (map system_columns) (keep_same (λ row. passes (system_columns row)) (λ row. is_held row.call second) s.systems (all_weaker (λ (row : SystemRow). IsCall row.call) (λ row. passes (system_columns row) ≡ is_held row.call second) (held_test second) s.systems calls))
+    ∙ ap (map system_columns) (filter_same (λ row. passes (system_columns row)) (λ row. is_held row.call second) s.systems (all_weaker (λ (row : SystemRow). IsCall row.call) (λ row. passes (system_columns row) ≡ is_held row.call second) (held_test second) s.systems calls))
 
 -- ---- the lines whose windows hold the minute
 
@@ -120,7 +114,7 @@ module _ (old new : db.State) (s : State) (rows : List Row) (of : IsStateOf s ol
   joins_are : (name : List ℕ) (grade : ℕ) (l : LineColumns) (x : RangeColumns) → joins (beside (line_cells l)) (beside (range_cells x)) ≡ joined week name grade l x
   joins_are name grade l x =
       then_term (at_texts false Eq x.system l.system ∙ is_eq-slice_cmp x.system l.system)
-      (then_term (at_ints false Eq (pos x.place) (pos l.place) ∙ int_eq_nat x.place l.place)
+      (then_term (at_ints false Eq (pos x.place) (pos l.place) ∙ int_eq-pos x.place l.place)
       (then_term (at_ints false Le (pos x.low) (pos week) ∙ le_nat x.low week) (last_term (at_ints false Le (pos week) (pos x.high) ∙ le_nat week x.high))))
 
   pub open_found : (found : List LineColumns) → rows ≡ map line_cells found → (name : List ℕ) (grade : ℕ) → lets_through found name grade ≡ is_open s.systems week name grade

@@ -2,6 +2,7 @@
 use Rattle.std.proofs.Common.{◌≡◌, Result, Ok, Err, subst, inl, ℕ, List}
 use Rattle.std.specs.Prelude.{Vec, IfOk, IfErr, OnOk, IsOk, IsErr}
 use Rattle.std.specs.declared.alloc.Global.{Global}
+use Rattle.std.proofs.lemmas.Result.{IfOk-from_err}
 use Rattle.sqlite.specs.declared.error.Error.{Error}
 use Rattle.sqlite.specs.Order.{Row}
 use Rattle.sqlite.specs.Given.{IsPlain}
@@ -13,7 +14,7 @@ use Rattle.uu_core.specs.State.{State}
 use Rattle.uu_schema.specs.Schema.{spool_schema}
 use Rattle.uu_questions.specs.Answers.{Answers, IsStateOf}
 use Rattle.uu_questions.specs.Reading.{Reads}
-use Rattle.uu_questions.proofs.Answering.{from_ok, to_any, none_told, none_answered}
+use Rattle.uu_questions.proofs.Answering.{from_ok, to_any, none_told}
 use Rattle.uu_questions.proofs.WalkLemmas.{plain_here, refused, commits_nothing, asked}
 
 module _ (sql : List ℕ) (params : Row) (old new : DbState) (plain : IsPlain (understood spool_schema sql)) where
@@ -40,7 +41,7 @@ module _ (sql : List ℕ) (params : Row) (old new : DbState) (plain : IsPlain (u
   module _ {T : Type 0} (IsRead : List Row → T → Type 0) (r : Result (Vec Row Global) Error) (ok : HasCleanDisk new → IfOk r (λ rows. Shown sql params old new rows.items)) (err : HasCleanDisk new → IfErr r (FailsToQuery sql params old new)) (survives : Survives old new (CommitsShowing sql params old)) (q : Result T Error) where
     -- the question was refused
     pub none_read : IsErr q → Reads IsRead sql params old new q
-    none_read fails = record { told = told_not spool_schema old new r q fails (told r ok err survives); same = λ clean stands. none_told _ q fails; rows = λ clean. none_answered _ q fails }
+    none_read fails = record { told = told_not spool_schema old new r q fails (told r ok err survives); same = λ clean stands. none_told _ q fails; rows = λ clean. IfOk-from_err q _ fails }
 
     -- it was answered, and this is what is read of its rows
     pub then_reads : IsOk r → (HasCleanDisk new → IfOk q (λ read. (rows : List Row) × Shown sql params old new rows × IsRead rows read)) → Reads IsRead sql params old new q

@@ -6,6 +6,7 @@ use Rattle.sqlite.specs.Tree.{IsAscending}
 use Rattle.sqlite.specs.State as db
 use Rattle.sqlite_sql.specs.declared.ops.CompareOp.TheVariants.{Eq}
 use Rattle.std.proofs.lemmas.Map.Text.{is_eq-slice_cmp}
+use Rattle.uu_names.proofs.Basics.{filter_all}
 use Rattle.sqlite_typed.proofs.TestLemmas.{at_texts, last_term}
 use Rattle.sqlite_keyed.proofs.ListLemmas.{filter-map, map_back, ascending-map, slice_get-filter}
 use Rattle.uu_schema.proofs.Terms.{where_is}
@@ -28,7 +29,7 @@ use Rattle.uu_questions.proofs.Meanings.{system_means, lines_of_means, ranges_of
 use Rattle.uu_rows.proofs.Meanings.{systems_means, lines_means, ranges_means, waits_means}
 use Rattle.uu_rows.proofs.Back.{system_back, system_returns, line_back, line_returns, range_back, range_returns, wait_back, wait_returns}
 use Rattle.uu_questions.proofs.Rising.{names_rise, lines_rise, ranges_rise, waits_rise}
-use Rattle.uu_rows.proofs.InTables.{systems_are, lines_are, ranges_are, waits_are, all_pass}
+use Rattle.uu_rows.proofs.InTables.{systems_are, lines_are, ranges_are, waits_are}
 use Rattle.uu_questions.proofs.Assembled.{lines_filtered, ranges_filtered, waits_filtered}
 use Rattle.uu_questions.proofs.OfSystems.{state_alone, name_alone, one_list}
 
@@ -50,7 +51,7 @@ module _ (old new : db.State) (s : State) (rows : List Row) (of : IsStateOf s ol
   systems_found h found read =
       same_cells system_cells system_back system_returns found _ (sym read
       ∙ systems_are spool_schema old new rows of.stands.schema systems_text _ [] [] h (systems_means Third) (λ r. refl) (map system_columns s.systems) of.holds.systems.same (systems_rise s of.good) (λ x. true) (λ x. refl))
-      ∙ all_pass (map system_columns s.systems)
+      ∙ filter_all (map system_columns s.systems)
 
   pub lines_of_found : (name : List ℕ) → db.Shown lines_of_text (Text name ∷ []) old new rows → (found : List LineColumns) → rows ≡ map line_cells found → found ≡ filter (λ (l : LineColumns). same_text l.system name) (tables_of s).lines
   lines_of_found name h found read =
@@ -61,7 +62,7 @@ module _ (old new : db.State) (s : State) (rows : List Row) (of : IsStateOf s ol
   lines_found h found read =
       same_cells line_cells line_back line_returns found _ (sym read
       ∙ lines_are spool_schema old new rows of.stands.schema lines_text _ [] [] h (lines_means Third) (λ r. refl) (tables_of s).lines of.holds.lines.same (lines_rise s of.good) (λ x. true) (λ x. refl))
-      ∙ all_pass (tables_of s).lines
+      ∙ filter_all (tables_of s).lines
 
   pub ranges_of_found : (name : List ℕ) → db.Shown ranges_of_text (Text name ∷ []) old new rows → (found : List RangeColumns) → rows ≡ map range_cells found → found ≡ filter (λ (r : RangeColumns). same_text r.system name) (tables_of s).ranges
   ranges_of_found name h found read =
@@ -72,7 +73,7 @@ module _ (old new : db.State) (s : State) (rows : List Row) (of : IsStateOf s ol
   ranges_found h found read =
       same_cells range_cells range_back range_returns found _ (sym read
       ∙ ranges_are spool_schema old new rows of.stands.schema ranges_text _ [] [] h (ranges_means Third) (λ r. refl) (tables_of s).ranges of.holds.ranges.same (ranges_rise s of.good) (λ x. true) (λ x. refl))
-      ∙ all_pass (tables_of s).ranges
+      ∙ filter_all (tables_of s).ranges
 
   pub waits_of_found : (name : List ℕ) → db.Shown waits_of_text (Text name ∷ []) old new rows → (found : List WaitColumns) → rows ≡ map wait_cells found → found ≡ filter (λ (w : WaitColumns). same_text w.system name) (tables_of s).success_waits
   waits_of_found name h found read =
@@ -83,7 +84,7 @@ module _ (old new : db.State) (s : State) (rows : List Row) (of : IsStateOf s ol
   waits_found h found read =
       same_cells wait_cells wait_back wait_returns found _ (sym read
       ∙ waits_are spool_schema old new rows of.stands.schema waits_text _ [] [] h waits_means (λ r. refl) (tables_of s).success_waits of.holds.success_waits.same (waits_rise s of.good) (λ x. true) (λ x. refl))
-      ∙ all_pass (tables_of s).success_waits
+      ∙ filter_all (tables_of s).success_waits
 
 -- ---- put together
 

@@ -1,9 +1,9 @@
 -- A report grows by the line of the next item.
 use Rattle.std.proofs.Common.{◌≡◌, ◌∙◌, ap, ℕ, ◌+◌, ◌<◌, List, [], ◌∷◌, ◌++◌, refl, sym, append_assoc, append-nil, length, take, get_or}
-use Rattle.std.proofs.lemmas.List.{take_more}
 use Rattle.std.proofs.lemmas.List.Concat.{flat_map-append}
 use Rattle.std.proofs.lemmas.Slice.Zip.{get_or-zip}
 use Rattle.std.specs.List.{flat_map, zip}
+use Rattle.uu_names.proofs.Basics.{take_with}
 use Rattle.uu_report.specs.Reports.{AreLines, spaced, line_of}
 
 AreLines-append : {X : Type 0} (IsLine : X → List ℕ → Type 0) (xs : List X) (x : X) (report line : List ℕ)
@@ -11,10 +11,6 @@ AreLines-append : {X : Type 0} (IsLine : X → List ℕ → Type 0) (xs : List X
 AreLines-append IsLine [] x report line all one = (line, [], rw all (sym (append-nil line)), one, refl)
 AreLines-append IsLine (first ∷ xs) x report line (head, rest, is, at, more) one =
     (head, rest ++ line, rw is (append_assoc head rest line), at, AreLines-append IsLine xs x rest line more one)
-
--- the items before a place, and the one there
-take_with : {X : Type 0} (xs : List X) (i : ℕ) (x : X) → i < length xs → x ≡ get_or xs i x → take (i + 1) xs ≡ take i xs ++ x ∷ []
-take_with xs i x inside is = take_more xs i x inside ∙ ap (λ y. take i xs ++ y ∷ []) (sym is)
 
 pub lines_grow : {X : Type 0} (IsLine : X → List ℕ → Type 0) (xs : List X) (i : ℕ) (x : X) (report line : List ℕ)
     → i < length xs → x ≡ get_or xs i x → AreLines IsLine (take i xs) report → IsLine x line → AreLines IsLine (take (i + 1) xs) (report ++ line)

@@ -1,12 +1,12 @@
 -- The commands of a bundle are steps of custody.
-use Rattle.std.proofs.Common.{◌≡◌, ◌∙◌, ◌&&◌, ap, sym, subst, refl, Bool, true, false, cond, true≢false, nat_eq, ℕ, suc, List, [], ◌∷◌, ◌++◌, length, map, Option, Some, None, is_some, Result, Ok, Err, unwrap_or, codes, arith}
+use Rattle.std.proofs.Common.{◌≡◌, ◌∙◌, ◌&&◌, ap, sym, subst, refl, Bool, true, false, cond, true≢false, nat_eq, ℕ, List, [], ◌∷◌, ◌++◌, length, map, Option, Some, None, is_some, Result, Ok, Err, unwrap_or, codes}
 use Rattle.std.specs.Prelude.{find, nat_le}
 use Rattle.std.specs.List.{All, ends_with, list_all}
 use Rattle.std.proofs.lemmas.Bool.{or_right, or_left}
 use Rattle.uu_names.specs.Envelope.{envelope_of, from_line, quote_of}
 use Rattle.uu_names.proofs.Basics.{text_from}
 use Rattle.uu_times.specs.declared.moment.Moment.{Moment}
-use Rattle.std.proofs.lemmas.List.Elements.{All-cons, All-nil}
+use Rattle.std.proofs.lemmas.List.Elements.{All-cons, All-nil, All-tail, All-head}
 use Rattle.uu_handover.specs.Bundles.{Packed}
 use Rattle.uu_core.specs.State.{most_bytes}
 use Rattle.uu_core.specs.TakeIns.{commands_in, offering}
@@ -109,12 +109,6 @@ module _ (settings : Settings) (at : Moment) (from : List ℕ) (parcel : Parcel)
 
 -- ---- a bundle
 
-tail_of : {X : Type 0} (P : X → Type 0) (x : X) (xs : List X) → All P (x ∷ xs) → All P xs
-tail_of P x xs all = λ k d inside. all (suc k) d (omega (arith, inside))
-
-head_of : {X : Type 0} (P : X → Type 0) (x : X) (xs : List X) → All P (x ∷ xs) → P x
-head_of P x xs all = all 0 x (omega arith)
-
 -- what the text of what is packed contains
 abbrev unpacked_job : Packed → Parcel
 unpacked_job packed_job = record {
@@ -148,12 +142,12 @@ IsMarked heading packed_job = packed_job.mark ≡ (bundle_crossing heading.from 
 
 marked_each : (heading : Heading) (records : List Record) → All (IsRecord heading) records → All (IsMarked heading) (map packed_job (jobs_in records))
 marked_each heading [] all = All-nil (IsMarked heading)
-marked_each heading (Has told ∷ records) all = marked_each heading records (tail_of (IsRecord heading) (Has told) records all)
-marked_each heading (No refused ∷ records) all = marked_each heading records (tail_of (IsRecord heading) (No refused) records all)
+marked_each heading (Has told ∷ records) all = marked_each heading records (All-tail (IsRecord heading) (Has told) records all)
+marked_each heading (No refused ∷ records) all = marked_each heading records (All-tail (IsRecord heading) (No refused) records all)
 marked_each heading (Job job ∷ records) all =
-    let it : IsParcel heading job = head_of (IsRecord heading) (Job job) records all in
+    let it : IsParcel heading job = All-head (IsRecord heading) (Job job) records all in
     All-cons (IsMarked heading) (packed_job job) (map packed_job (jobs_in records)) it.mark
-    (marked_each heading records (tail_of (IsRecord heading) (Job job) records all))
+    (marked_each heading records (All-tail (IsRecord heading) (Job job) records all))
 
 -- the commands of the jobs of a bundle that was read, with one before them that forgets
 are_unpacked : (settings : Settings) (at : Moment) (input sender : List ℕ) (onward : List (List ℕ)) (bundle : BundleText)

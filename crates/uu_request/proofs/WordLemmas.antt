@@ -6,14 +6,13 @@ use Rattle.std.proofs.lemmas.List.Splits.{length-slice_split, slice_split_first,
 use Rattle.std.proofs.lemmas.List.Sums.{fails_before_first}
 use Rattle.std.proofs.Math.Dec.{eqb-suc-zero}
 use Rattle.std.proofs.lemmas.Bool.{leb-true, le-leb, and_parts, and_from}
-use Rattle.std.proofs.lemmas.Bool.Decides.{nat_tests}
 use Rattle.std.proofs.lemmas.List.{length-drop}
 use Rattle.uu_names.specs.Fault.{AnswersUnlessMemory}
 use Rattle.uu_names.specs.Name.{has_form, is_site_byte, is_site_name, is_word, is_word_byte, most_name, most_word, word_of}
 use Rattle.uu_names.specs.Path.{first_hop, is_bang, rest_of}
 use Rattle.uu_names.specs.declared.fault.NameFault.{NameFault}
 use Rattle.uu_names.specs.declared.fault.NameFault.TheVariants as name
-use Rattle.uu_names.proofs.Basics.{list_all_weaker}
+use Rattle.uu_names.proofs.Basics.{list_all_weaker, word_from_site}
 use Rattle.uu_core.specs.declared.job.Kind.{Kind}
 use Rattle.uu_core.specs.declared.job.Kind.TheVariants as kind
 use Rattle.uu_line.specs.Lines.{same_text}
@@ -24,10 +23,6 @@ all_dropped : (p : ℕ → Bool) (n : ℕ) (xs : List ℕ) → list_all p xs ≡
 all_dropped p zero xs e = e
 all_dropped p (suc n) [] e = refl
 all_dropped p (suc n) (x ∷ xs) e = all_dropped p n xs (and_parts (p x) (list_all p xs) e).1
-
--- a byte of a site name is one of a word
-word_from_site : (b : ℕ) → is_site_byte b ≡ true → is_word_byte b ≡ true
-word_from_site b h = grind (arith, nat_tests)
 
 -- a site name is a word
 pub site_word : (site : List ℕ) → is_site_name site ≡ true → is_word site ≡ true

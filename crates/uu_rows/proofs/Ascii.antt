@@ -2,7 +2,6 @@
 use Rattle.std.proofs.Common.{◌≡◌, ◌<◌, ℕ, zero, suc, Bool, true, List, [], ◌∷◌, IsTrue, IsAscii, arith}
 use Rattle.std.specs.List.{All, list_all, join_with_byte}
 use Rattle.std.proofs.lemmas.Bool.{and_parts}
-use Rattle.std.proofs.lemmas.Bool.Decides.{nat_tests}
 use Rattle.std.proofs.lemmas.List.Elements.{All-head, All-tail}
 use Rattle.std.proofs.lemmas.Str.{IsAscii-append}
 use Rattle.std.proofs.lemmas.Str.Ascii.{IsAscii-nil, IsAscii-cons}
@@ -10,9 +9,7 @@ use Rattle.std.specs.Prelude.{nat_le, length}
 use Rattle.sqlite.specs.declared.types.Value.TheVariants.{Text}
 use Rattle.sqlite.specs.Order.{Row, column}
 use Rattle.uu_names.specs.Name.{is_word, is_word_byte, has_form}
-
-word_below : (b : ℕ) → is_word_byte b ≡ true → b < 128
-word_below b h = grind (arith, nat_tests)
+use Rattle.uu_names.proofs.Basics.{word_byte_below}
 
 all_ascii : (passes : ℕ → Bool) → ((b : ℕ) → passes b ≡ true → b < 128) → (text : List ℕ) → list_all passes text ≡ true → IsAscii text
 all_ascii passes low [] h = IsAscii-nil
@@ -22,7 +19,7 @@ form_ascii : (passes : ℕ → Bool) → ((b : ℕ) → passes b ≡ true → b 
 form_ascii passes low text h = all_ascii passes low text (and_parts (nat_le 1 (length text)) (list_all passes text) h).1
 
 pub word_ascii : (word : List ℕ) → IsTrue (is_word word) → IsAscii word
-word_ascii word h = form_ascii is_word_byte word_below word (and_parts (has_form is_word_byte word) (nat_le (length word) 255) h).0
+word_ascii word h = form_ascii is_word_byte word_byte_below word (and_parts (has_form is_word_byte word) (nat_le (length word) 255) h).0
 
 pub words_ascii : (words : List (List ℕ)) → All (λ word. IsTrue (is_word word)) words → IsAscii (join_with_byte 32 words)
 words_ascii [] h = IsAscii-nil

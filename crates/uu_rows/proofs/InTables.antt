@@ -1,7 +1,8 @@
 -- The ordered question on a table shows the rows of any list that rises and that the table holds.
-use Rattle.std.proofs.Common.{◌≡◌, ℕ, pos, List, [], ◌∷◌, Bool, true, map, filter, refl, ap, ◌∙◌, Less}
+use Rattle.std.proofs.Common.{◌≡◌, ℕ, pos, List, [], ◌∷◌, Bool, map, filter, refl, ◌∙◌, Less}
 use Rattle.std.specs.List.{list_all}
 use Rattle.std.specs.List.Sorted.{IsPermutation}
+use Rattle.uu_names.proofs.Basics.{int_cmp-pos}
 use Rattle.sqlite.specs.Order.{Row}
 use Rattle.sqlite.specs.Tree.{IsAscending}
 use Rattle.sqlite.specs.Term.{Term, holds}
@@ -28,11 +29,7 @@ use Rattle.uu_schema.specs.Cells.{system_cells, line_cells, range_cells, job_cel
 use Rattle.uu_tables.specs.Order.{system_cmp, line_cmp, range_cmp, head_cmp, entry_cmp, wait_cmp, link_cmp, taken_cmp}
 use Rattle.uu_rows.proofs.Meanings.{at_places, by_places}
 use Rattle.uu_rows.proofs.Typed.{typed_only}
-use Rattle.uu_rows.proofs.Comparing.{beside, numbered, int_cmp_nat}
-
-pub all_pass : {X : Type 0} (xs : List X) → filter (λ x. true) xs ≡ xs
-all_pass [] = refl
-all_pass (x ∷ xs) = ap (λ l. x ∷ l) (all_pass xs)
+use Rattle.uu_rows.proofs.Comparing.{beside, numbered}
 
 module _ (schema : Schema) (old new : db.State) (rows : List Row) (has : old.now.schema ≡ schema) (text : List ℕ) (names : List (List ℕ)) (params : Row) (tests : List Term) (h : db.Shown text params old new rows) where
   abbrev passes : Row → Bool
@@ -59,7 +56,7 @@ module _ (schema : Schema) (old new : db.State) (rows : List Row) (has : old.now
       let q : Query = ordered lines.tree tests (at_places line_places) (by_places (1 ∷ 2 ∷ [])) in
       let out : LineColumns → Output = λ x. output q (params ∷ beside (line_cells x) ∷ []) in
       let less : (x y : LineColumns) → line_cmp x y ≡ Less → output_cmp q (out x) (out y) ≡ Less = λ x y k.
-      then_key (value_cmp-Text x.system y.system) (last_key (value_cmp-Int (pos x.place) (pos y.place)) ∙ int_cmp_nat x.place y.place) ∙ k in
+      then_key (value_cmp-Text x.system y.system) (last_key (value_cmp-Int (pos x.place) (pos y.place)) ∙ int_cmp-pos x.place y.place) ∙ k in
       typed_only lines.tree tests (at_places line_places) (by_places (1 ∷ 2 ∷ [])) old.now.trees params rows refl (answer_of schema text q names params old new means has rows h) (columns line_places) beside sees (λ r. refl)
       line_cells xs held p picks (ascending-filter _ p xs (ascending_weaker _ (λ x y. output_cmp q (out x) (out y) ≡ Less) less xs rise))
 
@@ -70,7 +67,7 @@ module _ (schema : Schema) (old new : db.State) (rows : List Row) (has : old.now
       let q : Query = ordered ranges.tree tests (at_places range_places) (by_places (1 ∷ 2 ∷ 3 ∷ [])) in
       let out : RangeColumns → Output = λ x. output q (params ∷ beside (range_cells x) ∷ []) in
       let less : (x y : RangeColumns) → range_cmp x y ≡ Less → output_cmp q (out x) (out y) ≡ Less = λ x y k.
-      then_key (value_cmp-Text x.system y.system) (then_key (value_cmp-Int (pos x.place) (pos y.place) ∙ int_cmp_nat x.place y.place) (last_key (value_cmp-Int (pos x.low) (pos y.low)) ∙ int_cmp_nat x.low y.low)) ∙ k in
+      then_key (value_cmp-Text x.system y.system) (then_key (value_cmp-Int (pos x.place) (pos y.place) ∙ int_cmp-pos x.place y.place) (last_key (value_cmp-Int (pos x.low) (pos y.low)) ∙ int_cmp-pos x.low y.low)) ∙ k in
       typed_only ranges.tree tests (at_places range_places) (by_places (1 ∷ 2 ∷ 3 ∷ [])) old.now.trees params rows refl (answer_of schema text q names params old new means has rows h) (columns range_places) beside sees (λ r. refl)
       range_cells xs held p picks (ascending-filter _ p xs (ascending_weaker _ (λ x y. output_cmp q (out x) (out y) ≡ Less) less xs rise))
 
@@ -80,7 +77,7 @@ module _ (schema : Schema) (old new : db.State) (rows : List Row) (has : old.now
   heads_are means sees xs held rise p picks =
       let q : Query = ordered jobs.tree tests (at_places job_places) (by_places (0 ∷ [])) in
       let out : JobHead → Output = λ x. output q (params ∷ numbered (job_cells x) ∷ []) in
-      let less : (x y : JobHead) → head_cmp x y ≡ Less → output_cmp q (out x) (out y) ≡ Less = λ x y k. last_key (value_cmp-Int (pos x.number) (pos y.number)) ∙ int_cmp_nat x.number y.number ∙ k in
+      let less : (x y : JobHead) → head_cmp x y ≡ Less → output_cmp q (out x) (out y) ≡ Less = λ x y k. last_key (value_cmp-Int (pos x.number) (pos y.number)) ∙ int_cmp-pos x.number y.number ∙ k in
       typed_only jobs.tree tests (at_places job_places) (by_places (0 ∷ [])) old.now.trees params rows refl (answer_of schema text q names params old new means has rows h) (columns job_places) numbered sees (λ r. refl)
       job_cells xs held p picks (ascending-filter _ p xs (ascending_weaker _ (λ x y. output_cmp q (out x) (out y) ≡ Less) less xs rise))
 
@@ -121,6 +118,6 @@ module _ (schema : Schema) (old new : db.State) (rows : List Row) (has : old.now
       let q : Query = ordered taken.tree tests (at_places taken_places) (by_places (1 ∷ 2 ∷ [])) in
       let out : TakenColumns → Output = λ x. output q (params ∷ beside (taken_cells x) ∷ []) in
       let less : (x y : TakenColumns) → taken_cmp x y ≡ Less → output_cmp q (out x) (out y) ≡ Less = λ x y k.
-      then_key (value_cmp-Text x.system y.system) (last_key (value_cmp-Int (pos x.taken.number) (pos y.taken.number)) ∙ int_cmp_nat x.taken.number y.taken.number) ∙ k in
+      then_key (value_cmp-Text x.system y.system) (last_key (value_cmp-Int (pos x.taken.number) (pos y.taken.number)) ∙ int_cmp-pos x.taken.number y.taken.number) ∙ k in
       typed_only taken.tree tests (at_places taken_places) (by_places (1 ∷ 2 ∷ [])) old.now.trees params rows refl (answer_of schema text q names params old new means has rows h) (columns taken_places) beside sees (λ r. refl)
       taken_cells xs held p picks (ascending-filter _ p xs (ascending_weaker _ (λ x y. output_cmp q (out x) (out y) ≡ Less) less xs rise))

@@ -1,6 +1,6 @@
 -- A connection at rest on the tables of a state.
-use Rattle.std.proofs.Common.{◌≡◌, ap, sym, subst, ◌∙◌}
-use Rattle.std.specs.Prelude.{IsOk, Result, Ok, Err, is_ok}
+use Rattle.std.proofs.Common.{◌≡◌, sym, subst, ◌∙◌}
+use Rattle.std.specs.Prelude.{Result, Err}
 use Rattle.sqlite.specs.Effect.{Database}
 use Rattle.sqlite.specs.State as db
 use Rattle.uu_schema.specs.Steps.{Rests, Ready}
@@ -23,6 +23,3 @@ unchanged s b d same rests enc =
 
 pub is_memory : {T : Type 0} (fault : StoreFault) → ◌≡◌ {A = Result T StoreFault} (Err fault) (Err Memory) → fault ≡ Memory
 is_memory fault h = cc
-
-pub answered : {T E : Type 0} (r : Result T E) (x : T) → r ≡ Ok x → IsOk r
-answered r x is = ap is_ok is

@@ -1,10 +1,11 @@
 -- Rows whose rowids tell them apart: one more at a free rowid, and those that a DELETE by a test
 -- leaves.
-use Rattle.std.proofs.Common.{◌≡◌, ◌⊎◌, inl, inr, ℤ, List, [], ◌∷◌, map, filter, Bool, true, false, refl, sym, ap, subst, ◌∙◌, Ordering, Less, Equal, Greater, true≢false}
+use Rattle.std.proofs.Common.{◌≡◌, ◌⊎◌, inl, inr, ℤ, List, [], ◌∷◌, map, filter, Bool, true, false, sym, ap, subst, ◌∙◌, true≢false}
 use Rattle.std.specs.Prelude.{not, IsTrue}
 use Rattle.std.specs.List.Sorted.{IsPermutation}
-use Rattle.std.specs.Ordering.{is_eq, ordering_reverse}
+use Rattle.std.specs.Ordering.{is_eq}
 use Rattle.std.proofs.lemmas.List.Sorted.{IsPermutation-map, IsPermutation-sym}
+use Rattle.uu_names.proofs.Basics.{is_eq-ordering_reverse}
 use Rattle.sqlite.specs.declared.types.Value.TheVariants.{Int}
 use Rattle.sqlite.specs.Order.{Row, column, value_cmp}
 use Rattle.sqlite.specs.Tree.{rowid, put_row}
@@ -33,11 +34,6 @@ numbered_put new rows fit numbered = all_from (λ r. IsTrue (is_int (rowid r))) 
   | inr old ↦ all_has (λ x. IsTrue (is_int (rowid x))) rows r numbered old
 ])
 
-turned : (o : Ordering) → is_eq (ordering_reverse o) ≡ is_eq o
-turned Less = refl
-turned Equal = refl
-turned Greater = refl
-
 pub once_put : (new : Row) (rows : List Row) → is_taken rows new ≡ false → OnceEach rows → OnceEach (put_row new rows)
 once_put new rows free once a b h k tie = go (put_has new rows a h) (put_has new rows b k)
   where
@@ -48,7 +44,7 @@ once_put new rows free once a b h k tie = go (put_has new rows a h) (put_has new
     go (inl first) (inl second) = first ∙ sym second
     go (inl first) (inr old) =
         let same : is_eq (value_cmp (rowid new) (rowid b)) ≡ true = subst (λ x. is_eq (value_cmp (rowid x) (rowid b)) ≡ true) first (ap is_eq tie) in
-        absurd (true≢false (sym same ∙ ap is_eq (value_cmp_total.antisymm (rowid new) (rowid b)) ∙ turned (value_cmp (rowid b) (rowid new)) ∙ apart b old))
+        absurd (true≢false (sym same ∙ ap is_eq (value_cmp_total.antisymm (rowid new) (rowid b)) ∙ is_eq-ordering_reverse (value_cmp (rowid b) (rowid new)) ∙ apart b old))
     go (inr old) (inl second) = absurd (true≢false (sym (ap is_eq tie) ∙ ap (λ x. is_eq (value_cmp (rowid a) (rowid x))) second ∙ apart a old))
     go (inr first) (inr second) = once a b first second tie
 

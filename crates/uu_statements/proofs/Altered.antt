@@ -1,10 +1,8 @@
 -- What each UPDATE makes of the tables.
-use Rattle.std.proofs.Common.{◌≡◌, ◌==◌, ◌<◌, ℕ, ℤ, pos, List, [], ◌∷◌, Bool, true, map, filter, Ok, refl, sym, ap, subst, ◌∙◌, arith, Ordering, Less, Equal, Greater, nat_cmp}
-use Rattle.std.specs.Prelude.{IsTrue, ◌<ℤ◌}
+use Rattle.std.proofs.Common.{◌≡◌, ◌==◌, ℕ, ℤ, pos, List, [], ◌∷◌, Bool, true, map, filter, Ok, refl, sym, ap, subst, ◌∙◌}
+use Rattle.std.specs.Prelude.{IsTrue}
 use Rattle.std.specs.List.Sorted.{IsPermutation}
-use Rattle.std.specs.Ordering.{is_eq, int_eq, MatchOrdering}
-use Rattle.std.specs.Cmp.{ranked, int_cmp_is, unsigned_tied}
-use Rattle.std.proofs.lemmas.Int.{ints}
+use Rattle.std.specs.Ordering.{is_eq}
 use Rattle.std.proofs.lemmas.Map.Text.{is_eq-slice_cmp}
 use Rattle.std.proofs.lemmas.Bool.{eqb-true}
 use Rattle.sqlite.specs.declared.types.Value.TheVariants.{Null, Int, Text}
@@ -28,7 +26,7 @@ use Rattle.sqlite_keyed.proofs.ListLemmas.{filter_same, all_weaker}
 use Rattle.sqlite.specs.Listing.{understood}
 use Rattle.sqlite.specs.State.{State, Executes}
 use Rattle.sqlite.proofs.Callers.{statement_of, runs_as, one_step, one_permutation}
-use Rattle.uu_names.proofs.Basics.{text_from}
+use Rattle.uu_names.proofs.Basics.{text_from, int_eq-pos}
 use Rattle.uu_schema.specs.Steps.{Stands}
 use Rattle.uu_schema.proofs.Terms.{over, where_is}
 use Rattle.uu_schema.proofs.Rows.{cast_int, cast_null, over_rows, at_text, at_key}
@@ -63,16 +61,8 @@ text_test name text = ap is_eq (value_cmp-Text text name) ∙ is_eq-slice_cmp te
 abbrev pub is_number : ℕ → ℕ → Row → Bool
 is_number n at r = is_eq (value_cmp (column r at) (Int (pos n)))
 
-pub compared : (a b : ℕ) (o : Ordering) → MatchOrdering o (a < b) (a ≡ b) (b < a) → MatchOrdering o (pos a <ℤ pos b) (pos a ≡ pos b) (pos b <ℤ pos a)
-compared a b Less h = omega (arith, ints, h)
-compared a b Equal h = ap pos h
-compared a b Greater h = omega (arith, ints, h)
-
-int_eq_nat : (a b : ℕ) → int_eq (pos a) (pos b) ≡ (a == b)
-int_eq_nat a b = ap is_eq (sym (int_cmp_is (pos a) (pos b) (nat_cmp a b) (compared a b (nat_cmp a b) (ranked a b (nat_cmp a b) refl)))) ∙ unsigned_tied a b
-
 pub number_test : (n m : ℕ) → is_eq (value_cmp (Int (pos m)) (Int (pos n))) ≡ (m == n)
-number_test n m = ap is_eq (value_cmp-Int (pos m) (pos n)) ∙ int_eq_nat m n
+number_test n m = ap is_eq (value_cmp-Int (pos m) (pos n)) ∙ int_eq-pos m n
 
 -- ---- systems
 

@@ -1,7 +1,7 @@
 -- What each DELETE makes of the tables: its own rows go, and those that refer to them.
-use Rattle.std.proofs.Common.{◌≡◌, inl, inr, ℕ, ◌+◌, ℤ, pos, List, [], ◌∷◌, map, filter, slice_get, Bool, true, false, not, cond, Some, Ok, refl, sym, ap, subst, ◌∙◌, arith, append-nil, ◌++◌, nat_cmp, true≢false}
-use Rattle.std.specs.Prelude.{◌||◌, ◌&&◌, IsTrue, nat_lt, int_lt}
-use Rattle.std.specs.Cmp.{ranked, int_cmp_is, Equal-is}
+use Rattle.std.proofs.Common.{◌≡◌, inl, inr, ℕ, ◌+◌, ℤ, pos, List, [], ◌∷◌, map, filter, slice_get, Bool, true, false, not, cond, Some, Ok, refl, sym, ap, subst, ◌∙◌, arith, append-nil, ◌++◌, true≢false}
+use Rattle.std.specs.Prelude.{◌||◌, ◌&&◌, IsTrue, nat_lt}
+use Rattle.std.specs.Cmp.{Equal-is}
 use Rattle.sqlite_sql.specs.declared.ops.CompareOp.TheVariants.{Eq, Lt}
 use Rattle.sqlite_typed.proofs.TestLemmas.{at_ints, at_texts, then_term, last_term}
 use Rattle.std.specs.List.{AllByRecursion, list_any, list_all}
@@ -12,6 +12,7 @@ use Rattle.std.proofs.lemmas.Bool.Decides.{nat_tests}
 use Rattle.std.proofs.lemmas.Int.{ints}
 use Rattle.std.proofs.lemmas.Map.Text.{is_eq-slice_cmp}
 use Rattle.std.proofs.lemmas.Slice.Eq.{bytes_eq-Decides}
+use Rattle.uu_names.proofs.Basics.{int_lt-pos, int_cmp-pos, is_lt-nat_cmp}
 use Rattle.sqlite.specs.declared.types.Value.{Value}
 use Rattle.sqlite.specs.declared.types.Value.TheVariants.{Null, Int, Real, Text, Blob}
 use Rattle.sqlite.specs.Collation.TheVariants.{Binary}
@@ -53,7 +54,7 @@ use Rattle.uu_statements.proofs.Texts.{delete_system, delete_lines, delete_job, 
 use Rattle.uu_statements.proofs.Meanings.{delete_system_is, delete_system_plain, delete_lines_is, delete_lines_plain, delete_job_is, delete_job_plain, delete_entry_is, delete_entry_plain, delete_wait_is, delete_wait_plain, delete_link_is, delete_link_plain, delete_taken_is, delete_taken_plain, forgotten_terms}
 use Rattle.uu_statements.proofs.Keyed.{all_cells, fewer}
 use Rattle.uu_statements.proofs.Statements.{took, Took, takes}
-use Rattle.uu_statements.proofs.Altered.{is_text, text_test, is_number, number_test, compared}
+use Rattle.uu_statements.proofs.Altered.{is_text, text_test, is_number, number_test}
 use Rattle.uu_statements.proofs.Holding.{holds_entries, holds_waits, holds_links, holds_taken, holds_after_system, holds_after_lines, holds_after_job}
 use Rattle.uu_statements.proofs.Deeds.{one_deed, last_deed, nothing_due, removes, After, AfterLast}
 use Rattle.uu_statements.proofs.Lost.{AreApart, apart_of, Loses, loses_none, exactly, taken_as, of_taken, shown_of, children_lost}
@@ -437,13 +438,7 @@ abbrev is_below : List ℕ → ℕ → ℕ → Row → Bool
 is_below name below at r = is_text name at r && is_lt (value_cmp (column r (at + 1)) (Int (pos below)))
 
 below_test : (n m : ℕ) → is_lt (value_cmp (Int (pos m)) (Int (pos n))) ≡ nat_lt m n
-below_test n m = ap is_lt (value_cmp-Int (pos m) (pos n) ∙ sym (int_cmp_is (pos m) (pos n) (nat_cmp m n) (compared m n (nat_cmp m n) (ranked m n (nat_cmp m n) refl)))) ∙ numbers m n
-  where
-    numbers : (m n : ℕ) → is_lt (nat_cmp m n) ≡ nat_lt m n
-    numbers m n = grind (arith, nat_tests)
-
-lt_nat : (a b : ℕ) → int_lt (pos a) (pos b) ≡ nat_lt a b
-lt_nat a b = grind (arith, ints, nat_tests)
+below_test n m = ap is_lt (value_cmp-Int (pos m) (pos n) ∙ int_cmp-pos m n) ∙ is_lt-nat_cmp m n
 
 forgotten_test : (name : List ℕ) (below : ℕ) (x : TakenColumns) → is_below name below 0 (taken_cells x) ≡ is_forgotten name below x
 forgotten_test name below x = λ i. text_test name x.system i && below_test below x.taken.number i
@@ -459,7 +454,7 @@ below_passes name below r it =
     let system : column r 1 ≡ Text x.system = ap (λ cs. column cs 0) it.1 in
     let number : column r 2 ≡ Int (pos x.taken.number) = ap (λ cs. column cs 1) it.1 in
     let own : is_below name below 1 r ≡ is_forgotten name below x = rw (system, number) (forgotten_test name below x) in
-    rw (system, number) (then_term (at_texts false Eq x.system name ∙ is_eq-slice_cmp x.system name) (last_term (at_ints false Lt (pos x.taken.number) (pos below) ∙ lt_nat x.taken.number below))) ∙ sym own
+    rw (system, number) (then_term (at_texts false Eq x.system name ∙ is_eq-slice_cmp x.system name) (last_term (at_ints false Lt (pos x.taken.number) (pos below) ∙ int_lt-pos x.taken.number below))) ∙ sym own
 
 pub taken_gone : (old new : State) (name : List ℕ) (below : ℕ) (count : ℕ) → Stands spool_schema old.now → Executes delete_taken (Text name ∷ Int (pos below) ∷ []) old new (Ok count)
     → Stands spool_schema new.now × ((t : Tables) → Holds old.now.trees t → Holds new.now.trees (record t { taken = without (is_forgotten name below) t.taken }))

@@ -1,10 +1,12 @@
 -- The commands that count account for an acknowledged job.
-use Rattle.std.proofs.Common.{◌≡◌, ◌⊎◌, ◌≤◌, ◌<◌, inl, inr, ℕ, zero, suc, ◌+◌, Bool, true, false, List, [], ◌∷◌, ◌++◌, length, get_or, find, Option, Some, None, All, Contains, refl, sym, ap, subst, ◌∙◌, append_assoc, arith}
+use Rattle.std.proofs.Common.{◌≡◌, ◌⊎◌, ◌≤◌, ◌<◌, inl, inr, ℕ, ◌+◌, Bool, true, false, List, [], ◌∷◌, ◌++◌, length, find, Option, Some, None, All, Contains, refl, sym, ap, subst, ◌∙◌, append_assoc, arith}
 use Rattle.std.specs.Prelude.{zip}
 use Rattle.std.proofs.lemmas.Bool.{eqb-true}
 use Rattle.std.proofs.lemmas.Bool.Decides.{nat_tests}
 use Rattle.std.proofs.lemmas.List.{length-append}
-use Rattle.std.proofs.lemmas.List.Elements.{All-cons, All-nil, All-contains, Contains-append_right}
+use Rattle.std.proofs.lemmas.List.Elements.{All-contains, Contains-append_right}
+use Rattle.std.proofs.lemmas.Option.{same_Some}
+use Rattle.uu_names.proofs.Basics.{first_of, first_or_later, none_in, later_of, all_or_one}
 use Rattle.uu_core.specs.declared.command.Command.{Command}
 use Rattle.uu_core.specs.declared.command.Command.TheVariants.{Define, Remove, Queue, QueueOnce, Kill, Regrade, Rejuvenate, Failed, Done, Release, Entry, Forget}
 use Rattle.uu_core.specs.declared.command.Reply.{Reply}
@@ -23,22 +25,6 @@ use Rattle.uu_store.specs.Acknowledged.{IsThere, WasLetGo, IsAccountedFor, IsAcc
 
 -- ---- lists
 
-first_of : {X : Type 0} (x : X) (xs : List X) → Contains (x ∷ xs) x
-first_of x xs = (0, omega arith, refl)
-
-first_or_later : {X : Type 0} (x y : X) (xs : List X) → Contains (x ∷ xs) y → (x ≡ y) ⊎ Contains xs y
-first_or_later x y xs h = by-place h.0 h.1 h.2
-  where
-    by-place : (k : ℕ) → k < length (x ∷ xs) → get_or (x ∷ xs) k y ≡ y → (x ≡ y) ⊎ Contains xs y
-    by-place zero l e = inl e
-    by-place (suc k) l e = inr (k, omega arith, e)
-
-none_in : {X : Type 0} (y : X) → Contains [] y → ⊥
-none_in y h = omega (arith, h.1)
-
-later_of : {X : Type 0} (x y : X) (xs : List X) → Contains xs y → Contains (x ∷ xs) y
-later_of x y xs h = Contains-append_right (x ∷ []) xs y h
-
 -- a pair of two lists is a pair of their first parts, if the second part is no shorter
 of_fronts : {X Y : Type 0} (xs more : List X) (ys others : List Y) (p : X × Y) → length ys ≤ length xs → Contains (zip (xs ++ more) ys) p → Contains (zip xs (ys ++ others)) p
 of_fronts [] [] ys others p le h = absurd (none_in p h)
@@ -49,16 +35,6 @@ of_fronts (x ∷ xs) more (y ∷ ys) others p le h = elim (first_or_later (x, y)
   | inl same ↦ subst (Contains (zip (x ∷ xs) (y ∷ ys ++ others))) same (first_of (x, y) (zip xs (ys ++ others)))
   | inr later ↦ later_of (x, y) p (zip xs (ys ++ others)) (of_fronts xs more ys others p (omega (arith, le)) later)
 ]
-
--- all fail the test, or one passes
-all_or_one : {X : Type 0} (p : X → Bool) (xs : List X) → All (λ x. p x ≡ false) xs ⊎ ((x : X) × Contains xs x × (p x ≡ true))
-all_or_one p [] = inl (All-nil (λ x. p x ≡ false))
-all_or_one {X} p (x ∷ xs) = by-test (p x) refl (all_or_one p xs)
-  where
-    by-test : (t : Bool) → p x ≡ t → All (λ x. p x ≡ false) xs ⊎ ((y : X) × Contains xs y × (p y ≡ true)) → All (λ x. p x ≡ false) (x ∷ xs) ⊎ ((y : X) × Contains (x ∷ xs) y × (p y ≡ true))
-    by-test true is rest = inr (x, first_of x xs, is)
-    by-test false is (inl none) = inl (All-cons (λ x. p x ≡ false) x xs is none)
-    by-test false is (inr one) = inr (one.0, later_of x one.0 xs one.1, one.2)
 
 -- what is found if one passes
 found_one : {X : Type 0} (p : X → Bool) (xs : List X) (x : X) → Contains xs x → p x ≡ true → (y : X) × (find p xs ≡ Some y) × Contains xs y × (p y ≡ true)
@@ -87,9 +63,6 @@ follow_same first second = record {
 
 has_number : (number : ℕ) (job : Job) → job.number ≡ number → is_job number job ≡ true
 has_number number job is = grind (arith, nat_tests, is)
-
-new_of : (one other : NewJob) → Some one ≡ Some other → one ≡ other
-new_of one other same = cc
 
 -- ---- an acknowledged job is handed in by one of the commands that count
 
@@ -197,7 +170,7 @@ module _
         enters state command new it = by_command command it.command_is it.accepted it.first
           where
             is : (other : NewJob) → Some other ≡ Some it.new → job_of state.next other ≡ job_of state.next new
-            is other e = ap (job_of state.next) (new_of other it.new e) ∙ same_new
+            is other e = ap (job_of state.next) (same_Some other it.new e) ∙ same_new
               where
                 same_new : job_of state.next it.new ≡ job_of state.next new
                 same_new = sym it.job_is ∙ ap (λ n. job_of n new) (handed state command (job_of number new) it).0
@@ -252,7 +225,7 @@ module _
           then_alone job there is = elim (made at it.command job there) [
             | inl was ↦ (let low = below it.before was.later was.there in let same = was.same.number in absurd (omega (arith, low, same, is, next.0)))
             | inr ours ↦ (
-                let same : ours.new ≡ it.made.new = new_of ours.new it.made.new (sym ours.command_is ∙ it.made.command_is) in
+                let same : ours.new ≡ it.made.new = same_Some ours.new it.made.new (sym ours.command_is ∙ it.made.command_is) in
                 subst (IsSameJob (job_of number new)) (it.made.job_is ∙ ap (job_of at.next) (sym same) ∙ sym ours.job_is) (itself (job_of number new)))
           ]
 

@@ -1,9 +1,8 @@
 -- What is handed out of an answer.
-use Rattle.std.proofs.Common.{◌≡◌, ◌≤◌, ℕ, Bool, true, false, List, [], ◌∷◌, arith, Option, Some, None, option_map, Result, Ok, Err, sym, ap, subst, refl}
-use Rattle.std.specs.Prelude.{IfOk, IfSome, MatchResult, Vec, nat_le}
+use Rattle.std.proofs.Common.{◌≡◌, ℕ, Bool, true, false, List, [], ◌∷◌, Option, Some, None, option_map, Result, Ok, Err, sym, ap, subst, refl}
+use Rattle.std.specs.Prelude.{IfOk, IfSome, MatchResult, Vec}
 use Rattle.std.specs.List.{AllByRecursion, list_all}
-use Rattle.std.proofs.lemmas.Bool.{and_parts}
-use Rattle.std.proofs.lemmas.Bool.Decides.{nat_tests}
+use Rattle.std.proofs.lemmas.Bool.{and_parts, leb-true}
 use Rattle.std.proofs.lemmas.Result.{IfOk-weaker}
 use Rattle.std.specs.declared.alloc.Global.{Global}
 use Rattle.sqlite.specs.declared.error.Error.{Error}
@@ -32,11 +31,8 @@ answers_as P R a b r step it = record { told = it.told; same = it.same; exact = 
 
 -- ---- limits
 
-le_from : (a b : ℕ) → nat_le a b ≡ true → a ≤ b
-le_from a b h = grind (arith, nat_tests, h)
-
 pub bounded : (head : JobHead) → is_bounded head ≡ true → IsBounded head
-bounded head h = let p = and_parts _ _ h in record { queued = le_from _ _ p.0; size = le_from _ _ p.1 }
+bounded head h = let p = and_parts _ _ h in record { queued = leb-true _ _ p.0; size = leb-true _ _ p.1 }
 
 pub all_bounded : (heads : List JobHead) → list_all is_bounded heads ≡ true → AllByRecursion IsBounded heads
 all_bounded [] h = tt
@@ -44,7 +40,7 @@ all_bounded (head ∷ heads) h = let p = and_parts _ _ h in (bounded head p.0, a
 
 pub all_timed : (systems : List SystemRow) → list_all is_timed systems ≡ true → AllByRecursion IsTimed systems
 all_timed [] h = tt
-all_timed (system ∷ systems) h = let p = and_parts _ _ h in (le_from _ _ p.0, all_timed systems p.1)
+all_timed (system ∷ systems) h = let p = and_parts _ _ h in (leb-true _ _ p.0, all_timed systems p.1)
 
 -- the same of what is handed out
 abbrev pub are_bounded : Vec JobHead Global → Bool

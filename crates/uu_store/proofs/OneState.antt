@@ -1,12 +1,13 @@
 -- A database holds at most one state's tables.
-use Rattle.std.proofs.Common.{◌≡◌, inl, inr, ℕ, suc, ◌<◌, List, [], ◌∷◌, map, All, AllPairs, Ordering, Less, refl, sym, ap, subst, ◌∙◌, arith}
+use Rattle.std.proofs.Common.{◌≡◌, inl, inr, ℕ, ◌<◌, List, [], ◌∷◌, map, AllPairs, Ordering, Less, refl, sym, ap, subst, ◌∙◌, arith}
 use Rattle.std.specs.List.{AllByRecursion}
 use Rattle.std.specs.List.Sorted.{IsPermutation}
 use Rattle.std.specs.Cmp.{IsTotalOrder}
 use Rattle.std.specs.Ordering.{ordering_reverse}
 use Rattle.std.proofs.lemmas.Cmp.{nat_list_cmp_total, nat_cmp_total, on_total, then_total}
-use Rattle.std.proofs.lemmas.List.Elements.{All-head, All-tail}
 use Rattle.std.proofs.lemmas.List.Sorted.{IsPermutation-sym, IsPermutation-trans}
+use Rattle.uu_names.proofs.Basics.{all_unit}
+use Rattle.uu_rows.proofs.InOrder.{ascending_pairs}
 use Rattle.sqlite.specs.Order.{Row}
 use Rattle.sqlite.specs.Tree.{Trees, IsAscending}
 use Rattle.sqlite_rules.specs.Lists.{Has}
@@ -36,18 +37,7 @@ use Rattle.uu_store.proofs.CellsTell.{same_system, same_line, same_range, same_j
 
 -- ---- lists in one strict order with the same members
 
-by_recursion : {X : Type 0} (P : X → Type 0) (xs : List X) → All P xs → AllByRecursion P xs
-by_recursion P [] h = tt
-by_recursion P (x ∷ xs) h = (All-head P x xs h, by_recursion P xs (All-tail P x xs h))
-
 module _ {X : Type 0} (R : X → X → Type 0) where
-  ascending : (xs : List X) → AllPairs R xs → IsAscending R xs
-  ascending [] h = tt
-  ascending (x ∷ xs) h =
-      let first : All (R x) xs = λ k d within. h 0 (suc k) d (omega arith) (omega (arith, within)) in
-      let rest : AllPairs R xs = λ i j d below within. h (suc i) (suc j) d (omega (arith, below)) (omega (arith, within)) in
-      (by_recursion (R x) xs first, ascending xs rest)
-
   module _ (never : (a b : X) → R a b → R b a → ⊥) where
     later : (x y : X) (xs : List X) → IsAscending R (x ∷ xs) → Has xs y → R x y
     later x y xs up there = all_has (R x) xs y up.0 there
@@ -81,7 +71,7 @@ module _ {X : Type 0} (R : X → X → Type 0) where
       same_rows : (xs ys : List X) (rows : List Row) → AllPairs R xs → AllPairs R ys → AllByRecursion Good xs → AllByRecursion Good ys → IsPermutation (map cells xs) rows → IsPermutation (map cells ys) rows → xs ≡ ys
       same_rows xs ys rows up vp good fine h k =
           let same = IsPermutation-trans _ _ _ h (IsPermutation-sym _ _ k) in
-          same_members xs ys (ascending xs up) (ascending ys vp) (moved xs ys good fine same) (moved ys xs fine good (IsPermutation-sym _ _ same))
+          same_members xs ys (ascending_pairs R xs up) (ascending_pairs R ys vp) (moved xs ys good fine same) (moved ys xs fine good (IsPermutation-sym _ _ same))
 
 -- ---- orders
 
@@ -121,22 +111,17 @@ module _ (v : Version) (trees : Trees) (t u : Tables) (order : AreInOrder t) (ot
   next_is : t.next ≡ u.next
   next_is = let same = sym holds.spool ∙ other_holds.spool in cc
 
-  -- only of the rows of jobs has anything to be known
-  each_fine : {X : Type 0} (xs : List X) → AllByRecursion (λ _. Unit {0}) xs
-  each_fine [] = tt
-  each_fine (x ∷ xs) = (tt, each_fine xs)
-
   systems_are : t.systems ≡ u.systems
   systems_are = same_rows (λ (a b : SystemColumns). ComesBefore a.name b.name) (λ a b. never_both nat_list_cmp_total a.name b.name) system_cells (λ _. Unit {0}) (λ a b g f. same_system a b) t.systems u.systems _
-      order.systems other_order.systems (each_fine t.systems) (each_fine u.systems) holds.systems.same other_holds.systems.same
+      order.systems other_order.systems (all_unit t.systems) (all_unit u.systems) holds.systems.same other_holds.systems.same
 
   lines_are : t.lines ≡ u.lines
   lines_are = same_rows (λ a b. line_cmp a b ≡ Less) (never_both lines_total) line_cells (λ _. Unit {0}) (λ a b g f. same_line a b) t.lines u.lines _
-      order.lines other_order.lines (each_fine t.lines) (each_fine u.lines) holds.lines.same other_holds.lines.same
+      order.lines other_order.lines (all_unit t.lines) (all_unit u.lines) holds.lines.same other_holds.lines.same
 
   ranges_are : t.ranges ≡ u.ranges
   ranges_are = same_rows (λ a b. range_cmp a b ≡ Less) (never_both ranges_total) range_cells (λ _. Unit {0}) (λ a b g f. same_range a b) t.ranges u.ranges _
-      order.ranges other_order.ranges (each_fine t.ranges) (each_fine u.ranges) holds.ranges.same other_holds.ranges.same
+      order.ranges other_order.ranges (all_unit t.ranges) (all_unit u.ranges) holds.ranges.same other_holds.ranges.same
 
   jobs_are : t.jobs ≡ u.jobs
   jobs_are = same_rows (λ (a b : JobHead). a.number < b.number) (λ a b h k. omega (arith, h, k)) job_cells IsJobRow same_job t.jobs u.jobs _
@@ -144,18 +129,18 @@ module _ (v : Version) (trees : Trees) (t u : Tables) (order : AreInOrder t) (ot
 
   pieces_are : t.pieces ≡ u.pieces
   pieces_are = same_rows (λ a b. piece_cmp a b ≡ Less) (never_both pieces_total) piece_cells (λ _. Unit {0}) (λ a b g f. same_piece a b) t.pieces u.pieces _
-      order.pieces other_order.pieces (each_fine t.pieces) (each_fine u.pieces) holds.pieces.same other_holds.pieces.same
+      order.pieces other_order.pieces (all_unit t.pieces) (all_unit u.pieces) holds.pieces.same other_holds.pieces.same
 
   entries_are : t.entries ≡ u.entries
   entries_are = same_rows (λ (a b : EntryColumns). ComesBefore a.host b.host) (λ a b. never_both nat_list_cmp_total a.host b.host) entry_cells (λ _. Unit {0}) (λ a b g f. same_entry a b) t.entries u.entries _
-      order.entries other_order.entries (each_fine t.entries) (each_fine u.entries) holds.entries.same other_holds.entries.same
+      order.entries other_order.entries (all_unit t.entries) (all_unit u.entries) holds.entries.same other_holds.entries.same
 
   waits_of : (v : Version) → AreWaitsOf v t.success_waits trees → AreWaitsOf v u.success_waits trees → t.success_waits ≡ u.success_waits
   waits_of First h k = h ∙ sym k
   waits_of Second h k = same_rows (λ (a b : WaitColumns). ComesBefore a.system b.system) (λ a b. never_both nat_list_cmp_total a.system b.system) wait_cells (λ _. Unit {0}) (λ a b g f. same_wait a b) t.success_waits u.success_waits _
-      order.success_waits other_order.success_waits (each_fine t.success_waits) (each_fine u.success_waits) h.same k.same
+      order.success_waits other_order.success_waits (all_unit t.success_waits) (all_unit u.success_waits) h.same k.same
   waits_of Third h k = same_rows (λ (a b : WaitColumns). ComesBefore a.system b.system) (λ a b. never_both nat_list_cmp_total a.system b.system) wait_cells (λ _. Unit {0}) (λ a b g f. same_wait a b) t.success_waits u.success_waits _
-      order.success_waits other_order.success_waits (each_fine t.success_waits) (each_fine u.success_waits) h.same k.same
+      order.success_waits other_order.success_waits (all_unit t.success_waits) (all_unit u.success_waits) h.same k.same
 
   waits_are : t.success_waits ≡ u.success_waits
   waits_are = waits_of v holds.success_waits other_holds.success_waits
@@ -164,13 +149,13 @@ module _ (v : Version) (trees : Trees) (t u : Tables) (order : AreInOrder t) (ot
   links_of First h k = h ∙ sym k
   links_of Second h k = h ∙ sym k
   links_of Third h k = same_rows (λ (a b : LinkColumns). ComesBefore a.system b.system) (λ a b. never_both nat_list_cmp_total a.system b.system) link_cells (λ _. Unit {0}) (λ a b g f. same_link a b) t.links u.links _
-      order.links other_order.links (each_fine t.links) (each_fine u.links) h.same k.same
+      order.links other_order.links (all_unit t.links) (all_unit u.links) h.same k.same
 
   taken_of : (v : Version) → AreTakenOf v t.taken trees → AreTakenOf v u.taken trees → t.taken ≡ u.taken
   taken_of First h k = h ∙ sym k
   taken_of Second h k = h ∙ sym k
   taken_of Third h k = same_rows (λ a b. taken_cmp a b ≡ Less) (never_both taken_total) taken_cells (λ _. Unit {0}) (λ a b g f. same_taken a b) t.taken u.taken _
-      order.taken other_order.taken (each_fine t.taken) (each_fine u.taken) h.same k.same
+      order.taken other_order.taken (all_unit t.taken) (all_unit u.taken) h.same k.same
 
   same_tables : t ≡ u
   same_tables = λ i. record { next = next_is i; systems = systems_are i; lines = lines_are i; ranges = ranges_are i; jobs = jobs_are i; pieces = pieces_are i; entries = entries_are i; success_waits = waits_are i; links = links_of v holds.links other_holds.links i; taken = taken_of v holds.taken other_holds.taken i }

@@ -31,10 +31,6 @@ pub take_next : {A : Type 0} (all front back : List A) (x : A) (n : ℕ) → all
 take_next all front back x n is count =
     take_front all (front ++ x ∷ []) back (n + 1) (is ∙ sym (append_assoc front (x ∷ []) back)) (let e = length-append front (x ∷ []) in omega (arith, e, count))
 
-pub none_left : {A : Type 0} (xs : List A) → length xs ≡ 0 → xs ≡ []
-none_left [] none = refl
-none_left (x ∷ xs) none = absurd (omega (arith, none))
-
 -- past the end of the first list
 pub take_past : {A : Type 0} (one other : List A) (m n : ℕ) → m ≡ length one → take (m + n) (one ++ other) ≡ one ++ take n other
 take_past [] other m n is = ap (λ k. take (k + n) other) is ∙ ap (λ k. take k other) (omega arith)

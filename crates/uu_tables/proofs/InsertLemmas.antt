@@ -9,7 +9,7 @@ use Rattle.std.proofs.lemmas.Cmp.{nat_list_cmp_total}
 use Rattle.std.proofs.lemmas.List.{map-append}
 use Rattle.std.proofs.lemmas.List.Elements.{filter-append}
 use Rattle.std.proofs.lemmas.Map.Lookups.{exact_bytes}
-use Rattle.uu_names.proofs.Basics.{AllPairsByRecursion, all_weaker, later_other, not_before_itself, all_kept, less_is}
+use Rattle.uu_names.proofs.Basics.{AllPairsByRecursion, all_weaker, later_other, not_before_itself, all_kept, less_is, all_push}
 use Rattle.uu_core.specs.State.{same_text}
 use Rattle.uu_core.specs.After.{is_before, put_by}
 use Rattle.uu_tables.specs.Changes.{alter, without, insert_by}
@@ -193,10 +193,6 @@ not_behind_itself key = by_test (slice_cmp nat_cmp key key) refl
     by_test Greater e = refl
 
 module _ {V : Type 0} (name : V → List ℕ) (key : List ℕ) where
-  all_more : (P : V → Type 0) (xs : List V) (x : V) → AllByRecursion P xs → P x → AllByRecursion P (xs ++ x ∷ [])
-  all_more P [] x h p = (p, tt)
-  all_more P (y ∷ xs) x h p = (h.0, all_more P xs x h.1 p)
-
   one_between : (row : V) (front back : List V) → name row ≡ key → AllByRecursion (λ x. is_behind_key key (name x) ≡ false) front → AllByRecursion (λ x. is_behind_key key (name x) ≡ true) back → insert_by name row (front ++ back) ≡ front ++ row ∷ back
   one_between row front back is low high = λ i. first i ++ row ∷ second i
     where
@@ -222,5 +218,5 @@ module _ {V : Type 0} (name : V → List ℕ) (key : List ℕ) where
   each_between [] front back is low high = refl
   each_between (row ∷ rows) front back is low high =
       ap (insert_each name rows) (one_between row front back is.0 low high ∙ sym (append_assoc front (row ∷ []) back))
-      ∙ each_between rows (front ++ row ∷ []) back is.1 (all_more (λ x. is_behind_key key (name x) ≡ false) front row low (rw is.0 (not_behind_itself key))) high
+      ∙ each_between rows (front ++ row ∷ []) back is.1 (all_push (λ x. is_behind_key key (name x) ≡ false) front row low (rw is.0 (not_behind_itself key))) high
       ∙ append_assoc front (row ∷ []) (rows ++ back)

@@ -24,7 +24,7 @@ rejuvenated s number at by = λ i. record (tables_of s) {
 }
 
 -- the pieces of a job go with it
-pieces_go : (number : ℕ) (job : Job) → AllByRecursion (λ p. is_piece_of number p ≡ is_job number job) (pieces_of job)
+pub pieces_go : (number : ℕ) (job : Job) → AllByRecursion (λ p. is_piece_of number p ≡ is_job number job) (pieces_of job)
 pieces_go number job = each_made (λ p. is_piece_of number p ≡ is_job number job) (piece job.number job.bytes) (λ place. refl) _
 
 pub killed : (s : State) (number : ℕ) (by : By) → applied (RemoveJob number ∷ []) (tables_of s) ≡ tables_of (accept s (Kill number by))

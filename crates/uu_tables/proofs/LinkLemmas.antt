@@ -11,7 +11,7 @@ use Rattle.std.proofs.lemmas.Cmp.{nat_list_cmp_total, tied_itself}
 use Rattle.std.proofs.lemmas.List.{map-append}
 use Rattle.std.proofs.lemmas.List.Concat.{flat_map-append}
 use Rattle.std.proofs.lemmas.List.Elements.{filter-append, recursion_from_All}
-use Rattle.uu_names.proofs.Basics.{pairs_by_recursion, AllPairsByRecursion, all_weaker, later_other, not_before_itself, find_none, found_has, all_kept, less_is, all_flat}
+use Rattle.uu_names.proofs.Basics.{pairs_by_recursion, AllPairsByRecursion, all_weaker, later_other, not_before_itself, find_none, found_has, all_kept, less_is, all_flat, is_lt-nat_cmp}
 use Rattle.uu_core.specs.declared.command.Command.TheVariants.{Forget}
 use Rattle.uu_core.specs.declared.custody.HandIn.TheVariants.{First, Again}
 use Rattle.uu_core.specs.declared.custody.Key.{Key}
@@ -150,10 +150,7 @@ module _ (name : List ℕ) (links : List Link) (ordered : AllPairsByRecursion (b
     own_above t = ap (λ o. is_lt (ordering_then o (nat_cmp row.number t.number))) (tied_itself nat_list_cmp_total name)
 
     is_high : (t : Taken) → (t.number == row.number) ≡ false → above (taken_columns name t) ≡ nat_lt row.number t.number
-    is_high t e = own_above t ∙ numbers row.number t.number
-      where
-        numbers : (m n : ℕ) → is_lt (nat_cmp m n) ≡ nat_lt m n
-        numbers m n = grind (arith, nat_tests)
+    is_high t e = own_above t ∙ is_lt-nat_cmp row.number t.number
 
     is_low : (t : Taken) → (t.number == row.number) ≡ false → not (above (taken_columns name t)) ≡ nat_lt t.number row.number
     is_low t e = ap not (own_above t) ∙ numbers row.number t.number e

@@ -2,6 +2,7 @@
 use Rattle.std.proofs.Common.{◌≡◌, ℕ, Bool, true, false, cond, ◌||◌, List, [], ◌∷◌, find, Some, refl, ap, ◌∙◌}
 use Rattle.std.specs.Cmp.Lexicographic.{bytes_decides}
 use Rattle.std.specs.List.{AllByRecursion, list_any}
+use Rattle.std.proofs.lemmas.Bool.{both_ways}
 use Rattle.uu_names.proofs.Basics.{AllPairsByRecursion, all_weaker, later_other}
 use Rattle.uu_core.specs.State.{ComesBefore, same_text}
 use Rattle.uu_tables.specs.Changes.{alter}
@@ -17,21 +18,15 @@ module _ {V : Type 0} (name : V → List ℕ) where
 
   others : (key : List ℕ) (row : V) (rows : List V) → has key row ≡ true → AllByRecursion (before row) rows → AllByRecursion (λ other. has key other ≡ true → other ≡ row) rows
   others key row rows own later =
-      all_weaker (before row) (λ other. has key other ≡ true → other ≡ row) (λ other ahead again. absurd (clash (later_other (name row) (name other) ahead) (ap (same_text (name other)) ((bytes_decides (name row) key).0 own) ∙ again))) rows later
-    where
-      clash : {t : Bool} → t ≡ false → t ≡ true → ⊥
-      clash p q = cc
+      all_weaker (before row) (λ other. has key other ≡ true → other ≡ row) (λ other ahead again. absurd (both_ways _ (later_other (name row) (name other) ahead) (ap (same_text (name other)) ((bytes_decides (name row) key).0 own) ∙ again))) rows later
 
   pub only_one : (key : List ℕ) (rows : List V) → AllPairsByRecursion before rows → (found : V) → find (has key) rows ≡ Some found → AllByRecursion (λ other. has key other ≡ true → other ≡ found) rows
   only_one key [] h found e = tt
   only_one key (row ∷ rows) h found e = by_test (has key row) refl e (only_one key rows h.1 found)
     where
-      clash : {t : Bool} → t ≡ false → t ≡ true → ⊥
-      clash p q = cc
-
       by_test : (t : Bool) → has key row ≡ t → cond t (Some row) (find (has key) rows) ≡ Some found → (find (has key) rows ≡ Some found → AllByRecursion (λ other. has key other ≡ true → other ≡ found) rows) → (has key row ≡ true → row ≡ found) × AllByRecursion (λ other. has key other ≡ true → other ≡ found) rows
       by_test true own is rest = let same : row ≡ found = cc in ((λ _. same), all_weaker (λ other. has key other ≡ true → other ≡ row) (λ other. has key other ≡ true → other ≡ found) (λ other one again. one again ∙ same) rows (others key row rows own h.0))
-      by_test false other is rest = ((λ own. absurd (clash other own)), rest is)
+      by_test false other is rest = ((λ own. absurd (both_ways _ other own)), rest is)
 
 -- two changes that agree for the elements that are changed
 pub agree : {X : Type 0} (p : X → Bool) (c d : X → X) (xs : List X) → AllByRecursion (λ x. p x ≡ true → c x ≡ d x) xs → alter p c xs ≡ alter p d xs

@@ -1,5 +1,6 @@
 -- Plans of commands that are accepted and of those that are refused.
 use Rattle.std.proofs.Common.{◌≡◌, Bool, List, [], ◌∷◌, ◌++◌, Option, Some, None, Result, Ok, Err, IfOk, refl, sym, ap, ◌∙◌}
+use Rattle.std.proofs.lemmas.Option.{none-some}
 use Rattle.uu_core.specs.declared.command.Command.{Command}
 use Rattle.uu_core.specs.declared.command.Reply.TheVariants.{Refused}
 use Rattle.uu_core.specs.declared.refusal.Refusal.{Refusal}
@@ -33,10 +34,7 @@ when_refused {V} reasons value refusal h = by_first (first_reason reasons) h
 
 module _ (s : State) (command : Command) (plan : Plan) where
   pub accepts : verdict s command ≡ None → plan.reply ≡ reply_to s command → applied plan.changes.items (tables_of s) ≡ tables_of (accept s command) → IsPlan s command plan
-  accepts none reply tables = record { reply = rw none reply; tables = rw none tables; refused = λ refusal some. absurd (apart refusal (sym none ∙ some)) }
-    where
-      apart : (refusal : Refusal) → None ≡ Some refusal → ⊥
-      apart refusal h = cc
+  accepts none reply tables = record { reply = rw none reply; tables = rw none tables; refused = λ refusal some. absurd (none-some refusal (sym none ∙ some)) }
 
   pub refuses : (refusal : Refusal) → verdict s command ≡ Some refusal → plan.reply ≡ Refused refusal → plan.changes.items ≡ [] → IsPlan s command plan
   refuses refusal some reply changes = record { reply = rw some reply; tables = rw (some, changes) refl; refused = λ other same. changes }

@@ -1,10 +1,9 @@
 -- Jobs that a system has go, and no others.
-use Rattle.std.proofs.Common.{◌≡◌, ℕ, ◌<◌, ◌==◌, ◌&&◌, Bool, true, not, cond, List, [], ◌∷◌, filter, AllPairs, Contains, refl, sym, ap, ◌∙◌, inl, inr, ◌⊎◌, arith}
+use Rattle.std.proofs.Common.{◌≡◌, ℕ, ◌<◌, ◌==◌, ◌&&◌, Bool, true, not, cond, List, [], ◌∷◌, filter, AllPairs, Contains, refl, sym, ap, ◌∙◌}
 use Rattle.std.specs.Cmp.{both_ways}
 use Rattle.std.proofs.lemmas.Bool.{eqb-true, and_from}
-use Rattle.std.proofs.lemmas.Bool.Decides.{nat_tests}
-use Rattle.std.proofs.lemmas.List.Elements.{All-contains}
-use Rattle.uu_names.proofs.Basics.{in_filter, from_filter, some_passes, passing_one, first_or_later, first_of, later_of, none_in, pairs_first, pairs_rest, and_first, and_second}
+use Rattle.std.proofs.lemmas.Cmp.{nat_eq_equiv}
+use Rattle.uu_names.proofs.Basics.{in_filter, from_filter, some_passes, passing_one, first_of, later_of, and_first, and_second, one_of_number}
 use Rattle.uu_core.specs.declared.command.Command.TheVariants.{Release}
 use Rattle.uu_core.specs.State.{State, Job, same_text}
 use Rattle.uu_core.specs.After.{accept, is_among, is_released}
@@ -20,31 +19,11 @@ same_without p q [] same = refl
 same_without p q (job ∷ jobs) same =
     ap (λ t. cond (not t) (job ∷ without p jobs) (without p jobs)) (same job (first_of job jobs)) ∙ ap (λ l. cond (not (q job)) (job ∷ l) l) (same_without p q jobs (λ other there. same other (later_of job other jobs there)))
 
--- two jobs of one number are one
-one_job : (jobs : List Job) (one other : Job) → AllPairs (λ (a b : Job). a.number < b.number) jobs → Contains jobs one → Contains jobs other → one.number ≡ other.number → one ≡ other
-one_job [] one other rising a b same = absurd (none_in one a)
-one_job (job ∷ jobs) one other rising a b same = by-place (first_or_later job one jobs a) (first_or_later job other jobs b) (one_job jobs one other (pairs_rest R job jobs rising))
-  where
-    R : Job → Job → Type 0
-    R first second = first.number < second.number
-
-    before : (later : Job) → Contains jobs later → job.number < later.number
-    before later there = All-contains (R job) jobs later (pairs_first R job jobs rising) there
-
-    by-place : (job ≡ one) ⊎ Contains jobs one → (job ≡ other) ⊎ Contains jobs other → (Contains jobs one → Contains jobs other → one.number ≡ other.number → one ≡ other) → one ≡ other
-    by-place (inl p) (inl q) again = sym p ∙ q
-    by-place (inl p) (inr there) again = absurd (let l = before other there in let n : job.number ≡ one.number = ap (λ (j : Job). j.number) p in omega arith)
-    by-place (inr there) (inl q) again = absurd (let l = before one there in let n : job.number ≡ other.number = ap (λ (j : Job). j.number) q in omega arith)
-    by-place (inr there) (inr where_other) again = again there where_other same
-
 -- ---- what goes
 
 module _ (s : State) (system numbers : List ℕ) (rising : AllPairs (λ (a b : Job). a.number < b.number) s.jobs) where
   abbrev found : List ℕ
   found = filter (waits_under s system) numbers
-
-  turned_eq : (a b : ℕ) → (a == b) ≡ true → (b == a) ≡ true
-  turned_eq a b e = grind (arith, nat_tests)
 
   -- of the state's jobs those have a number that was found that are released
   released : (job : Job) → Contains s.jobs job → is_among found job ≡ is_released system numbers job
@@ -57,14 +36,14 @@ module _ (s : State) (system numbers : List ℕ) (rising : AllPairs (λ (a b : J
           let other = passing_one (λ (j : Job). j.number == one.0 && same_text j.system system) s.jobs inside.1 in
           let number = and_first (other.0.number == one.0) (same_text other.0.system system) other.2 in
           let own = and_second (other.0.number == one.0) (same_text other.0.system system) other.2 in
-          let same : other.0 ≡ job = one_job s.jobs other.0 job rising other.1 there (eqb-true other.0.number one.0 number ∙ eqb-true one.0 job.number one.2) in
+          let same : other.0 ≡ job = one_of_number (λ (j : Job). j.number) s.jobs other.0 job rising other.1 there (eqb-true other.0.number one.0 number ∙ eqb-true one.0 job.number one.2) in
           and_from (is_among numbers job) (same_text job.system system) (some_passes (λ number. number == job.number) numbers one.0 inside.0 one.2) (ap (λ (j : Job). same_text j.system system) (sym same) ∙ own)
 
       back : is_released system numbers job ≡ true → is_among found job ≡ true
       back e =
           let own = and_second (is_among numbers job) (same_text job.system system) e in
           let one = passing_one (λ number. number == job.number) numbers (and_first (is_among numbers job) (same_text job.system system) e) in
-          let waits : waits_under s system one.0 ≡ true = some_passes (λ (j : Job). j.number == one.0 && same_text j.system system) s.jobs job there (and_from (job.number == one.0) (same_text job.system system) (turned_eq one.0 job.number one.2) own) in
+          let waits : waits_under s system one.0 ≡ true = some_passes (λ (j : Job). j.number == one.0 && same_text j.system system) s.jobs job there (and_from (job.number == one.0) (same_text job.system system) (nat_eq_equiv.symm job.number one.0 ∙ one.2) own) in
           some_passes (λ number. number == job.number) found one.0 (in_filter (waits_under s system) numbers one.0 one.1 waits) one.2
 
   pub release : without_jobs found (tables_of s) ≡ tables_of (accept s (Release system numbers))

@@ -3,7 +3,7 @@ use Rattle.std.proofs.Common.{◌≡◌, ◌≤◌, ℕ, ◌==◌, ◌||◌, Boo
 use Rattle.std.specs.List.{AllByRecursion, flat_map, list_any}
 use Rattle.std.proofs.lemmas.Bool.Decides.{nat_tests}
 use Rattle.std.proofs.lemmas.List.Folds.{list_any-append}
-use Rattle.uu_names.proofs.Basics.{AllPairsByRecursion, all_weaker, find_any, find_none}
+use Rattle.uu_names.proofs.Basics.{AllPairsByRecursion, all_weaker, find_any, find_none, is_some-find}
 use Rattle.uu_times.specs.System.{AreWithinLimits}
 use Rattle.uu_times.specs.declared.moment.Moment.{Moment}
 use Rattle.uu_core.specs.declared.command.Command.TheVariants.{Failed, Done}
@@ -147,5 +147,4 @@ done_is_found None at call name numbers heads none is = absurd (no_none (nat_lt 
 done_is_found (Some row) at call name numbers heads none is = (row, refl, is)
 
 pub is_known : (s : State) (name : List ℕ) (o : Option SystemRow) → o ≡ system_at s name → is_some o ≡ has_system s name
-is_known s name None is = sym (find_none (is_system name) s.systems (sym is))
-is_known s name (Some row) is = sym (find_any (is_system name) s.systems row (sym is))
+is_known s name o is = ap is_some is ∙ is_some-find (is_system name) s.systems

@@ -2,16 +2,16 @@
 use Rattle.std.proofs.Common.{◌≡◌, inl, inr, ℕ, Bool, true, false, ◌||◌, Option, None, Some, Result, Ok, Err, List, [], ◌∷◌, ◌++◌, length, nat_le, refl, ap, sym, ◌∙◌, append_assoc, append-nil}
 use Rattle.std.proofs.lemmas.Bool.{cases_Bool, cond-true, cond-false}
 use Rattle.std.proofs.lemmas.Map.Text.{is_eq-slice_cmp}
-use Rattle.std.proofs.lemmas.Slice.Eq.{bytes_eq-Decides}
 use Rattle.std.proofs.lemmas.List.Elements.{filter_map-append}
 use Rattle.std.specs.BTreeMap.{insert_entry}
 use Rattle.std.specs.Cmp.Lexicographic.{slice_cmp}
 use Rattle.std.specs.List.{filter_map, cons_option, list_any, last_or}
-use Rattle.std.specs.Ordering.{nat_cmp, is_eq, match_ordering}
+use Rattle.std.specs.Ordering.{nat_cmp, match_ordering}
 use Rattle.std.specs.Str.{bytes_eq}
 use Rattle.std.specs.Str.Lines.{lines}
 use Rattle.std.specs.declared.cmp.Ordering.{Ordering}
 use Rattle.std.specs.declared.cmp.Ordering.TheVariants.{Less, Equal, Greater}
+use Rattle.std.proofs.lemmas.Map.Lookups.{exact_bytes}
 use Rattle.uu_times.specs.declared.directive.Directive.{Directive}
 use Rattle.uu_times.specs.declared.directive.Directive.TheVariants.{Begin, Time, Retries, SuccessWait, Table, Skip}
 use Rattle.uu_times.specs.declared.fault.TimeFault.{TimeFault}
@@ -37,9 +37,6 @@ swapped true false c = refl
 swapped false true c = refl
 swapped false false c = refl
 
-same_if : (m k : List ℕ) → slice_cmp nat_cmp m k ≡ Equal → m ≡ k
-same_if m k equal = (bytes_eq-Decides m k).0 (sym (is_eq-slice_cmp m k) ∙ ap is_eq equal)
-
 seen-cons : (n first : List ℕ) (seen : Seen) → has_seen (first ∷ seen) n ≡ (bytes_eq n first || has_seen seen n)
 seen-cons n first seen = ap (λ b. b || has_seen seen n) (is_eq-slice_cmp n first)
 
@@ -53,7 +50,7 @@ seen_with_by first seen m n Equal is later =
     ap (λ o. has_seen (match_ordering o (m ∷ first ∷ seen) (first ∷ seen) (first ∷ with_seen seen m)) n) is
     ∙ seen-cons n first seen
     ∙ twice (bytes_eq n first) (has_seen seen n)
-    ∙ ap (λ k. bytes_eq n k || (bytes_eq n first || has_seen seen n)) (sym (same_if m first is))
+    ∙ ap (λ k. bytes_eq n k || (bytes_eq n first || has_seen seen n)) (sym (exact_bytes m first is))
     ∙ ap (λ b. bytes_eq n m || b) (sym (seen-cons n first seen))
 seen_with_by first seen m n Greater is later =
     ap (λ o. has_seen (match_ordering o (m ∷ first ∷ seen) (first ∷ seen) (first ∷ with_seen seen m)) n) is

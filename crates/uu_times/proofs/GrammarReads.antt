@@ -2,7 +2,7 @@
 -- one.
 use Rattle.std.proofs.Common.{◌≡◌, ◌⊎◌, inl, inr, ℕ, ◌+◌, ◌-◌, ◌*◌, ◌/◌, ◌%◌, ◌<◌, ◌≤◌, Bool, true, false, ◌&&◌, cond, Option, None, Some, option_map, option_and_then, Result, Ok, Err, List, [], ◌∷◌, ◌++◌, length, map, refl, ap, sym, subst, ◌∙◌, arith, append_assoc, append-nil, length-append, nat_eq, nat_le, nat_lt}
 use Rattle.std.proofs.lemmas.Bool.{cond-true, cond-false, cases_Bool, eqb-true, ltb-true, leb-true, and_parts, or_cases}
-use Rattle.std.proofs.lemmas.Option.{same_Some}
+use Rattle.std.proofs.lemmas.Option.{same_Some, cond_some}
 use Rattle.std.specs.Char.{is_ascii_digit}
 use Rattle.std.specs.List.{flat_map, list_any}
 use Rattle.uu_times.specs.declared.days.Days.{Days}
@@ -24,11 +24,6 @@ ok_same x y same = cc
 
 err-ok : {X : Type 0} (at : ℕ) (y : X) → let r : Result X ℕ = Err at in r ≡ Ok y → ⊥
 err-ok at y same = cc
-
--- a guard that passed, and a first choice or a later one
-guard_passed : {X : Type 0} (b : Bool) (x y : X) → cond b (Some x) None ≡ Some y → (b ≡ true) × (x ≡ y)
-guard_passed true x y same = (refl, same_Some x y same)
-guard_passed false x y same = absurd (none-some y None refl same)
 
 choice : {X : Type 0} (b : Bool) (x y : X) (o : Option X) → cond b (Some x) o ≡ Some y → ((b ≡ true) × (x ≡ y)) ⊎ (o ≡ Some y)
 choice true x y o same = inl (refl, same_Some x y same)
@@ -165,7 +160,7 @@ digit_led test place unit digits letter next same =
           let value = digit_value letter is in
           let read : more_digits unit digits letter ≡ Some (digits + value.0 * unit) =
           cond-true (is_ascii_digit letter) (Some (digits + (letter - 48) * unit)) None is ∙ ap (λ (x : ℕ). Some (digits + x * unit)) (omega (arith, value.2)) in
-          let passed = guard_passed (test (digits + value.0 * unit)) (place (digits + value.0 * unit)) next
+          let passed = cond_some (test (digits + value.0 * unit)) (place (digits + value.0 * unit)) next
           (sym (ap (option_and_then (λ more. cond (test more) (Some (place more)) None)) read) ∙ same) in
           (value.0, value.1, value.2, passed.0, passed.1)
       | inr other ↦
@@ -180,7 +175,7 @@ there place next text same pending = subst (λ (p : Place). Pending p text) same
 -- a first letter
 step_first : (days : Days) (text : List ℕ) (letter : ℕ) (next : Place) → Words days text → first_letter days letter ≡ Some next → Pending next (text ++ letter ∷ [])
 step_first days text letter next front same =
-    let passed = guard_passed (list_any (λ first. nat_eq first letter) (115 ∷ 109 ∷ 116 ∷ 119 ∷ 102 ∷ 97 ∷ [])) (Letter days letter) next same in
+    let passed = cond_some (list_any (λ first. nat_eq first letter) (115 ∷ 109 ∷ 116 ∷ 119 ∷ 102 ∷ 97 ∷ [])) (Letter days letter) next same in
     there (Letter days letter) next (text ++ letter ∷ []) passed.1 (text, front, refl)
 
 step_second : (days : Days) (first letter : ℕ) (text front : List ℕ) (next : Place) → Words days front → text ≡ front ++ first ∷ [] → second_letter days first letter ≡ Some next
@@ -281,7 +276,7 @@ step_next Start next letter text same pending =
     step_first no_days text letter next (subst (Words no_days) (sym pending) no-words) same
 step_next (Letter days first) next letter text same (front, words, is) = step_second days first letter text front next words is same
 step_next (LettersAn days) next letter text same (front, words, is) =
-    let passed = guard_passed (nat_eq letter 121) (Named (with_days days (0, 6))) next same in
+    let passed = cond_some (nat_eq letter 121) (Named (with_days days (0, 6))) next same in
     there (Named (with_days days (0, 6))) next (text ++ letter ∷ []) passed.1
     (subst (λ (t : List ℕ). Named' (with_days days (0, 6)) t)
     (sym (append_assoc front (97 ∷ 110 ∷ []) (121 ∷ [])) ∙ ap (λ t. t ++ 121 ∷ []) (sym is) ∙ ap (λ (l : ℕ). text ++ l ∷ []) (sym (eqb-true letter 121 passed.0)))
@@ -295,7 +290,7 @@ step_next (Named days) next letter text same pending =
     ]
 step_next (From days unit digits) next letter text same (front, part, words, so_far, is) = step-from days unit digits letter text front part next words so_far is same
 step_next (Dash days start) next letter text same (front, part, words, begun, is) =
-    let passed = guard_passed (nat_eq letter 45) (To days start 1000 0) next same in
+    let passed = cond_some (nat_eq letter 45) (To days start 1000 0) next same in
     there (To days start 1000 0) next (text ++ letter ∷ []) passed.1 (
       front,
       part,

@@ -1,6 +1,6 @@
 -- Words that are printed as lines are read as those words.
-use Rattle.std.proofs.Common.{◌≡◌, ℕ, ◌+◌, ◌-◌, ◌*◌, ◌%◌, ◌<◌, ◌≤◌, ◌^◌, Bool, true, false, not, ◌&&◌, ◌||◌, cond, None, Some, Result, Ok, Err, List, [], ◌∷◌, ◌++◌, length, take, get_or, refl, ap, sym, subst, ◌∙◌, arith, nat_eq, nat_le, append_assoc, All}
-use Rattle.std.proofs.lemmas.Bool.{cond-true, cond-false, and_parts, ne_eqb, leb-true, le-leb, and_from}
+use Rattle.std.proofs.Common.{◌≡◌, ℕ, ◌+◌, ◌-◌, ◌*◌, ◌%◌, ◌<◌, ◌≤◌, ◌^◌, Bool, true, false, not, ◌&&◌, cond, None, Some, Result, Ok, Err, List, [], ◌∷◌, ◌++◌, length, take, get_or, refl, ap, sym, subst, ◌∙◌, arith, nat_eq, nat_le, append_assoc, All}
+use Rattle.std.proofs.lemmas.Bool.{cond-true, cond-false, and_parts, ne_eqb, leb-true, le-leb, and_from, or_from}
 use Rattle.std.proofs.lemmas.Bool.Decides.{nat_tests}
 use Rattle.std.proofs.lemmas.Fmt.{decimal_by_steps, decimal_nonempty, length-decimal-le}
 use Rattle.std.proofs.lemmas.List.Elements.{All-nil, All-cons, All-append, All-tail, All-weaker, All-get_or}
@@ -10,7 +10,7 @@ use Rattle.std.specs.Fmt.{decimal}
 use Rattle.std.specs.List.{flat_map, list_all}
 use Rattle.std.specs.Str.Lines.{lines, lines_of_parts}
 use Rattle.uu_names.specs.Text.{is_blank}
-use Rattle.uu_names.proofs.Basics.{lines_of_parts_cons}
+use Rattle.uu_names.proofs.Basics.{lines_of_parts_cons, list_all_both}
 use Rattle.uu_times.proofs.GrammarLemmas.{is-digit}
 use Rattle.uu_times.specs.declared.fault.TimeFault.{TimeFault}
 use Rattle.uu_times.specs.Directives.{◌>>=◌, value_behind, number_of, words_say, line_says}
@@ -37,11 +37,6 @@ AreWords (word ∷ words) = IsWord word × AreWords words
 abbrev pub AreLines : List (List (List ℕ)) → Type 0
 AreLines [] = Unit {0}
 AreLines (words ∷ more) = (0 < length words) × AreWords words × AreLines more
-
-pub all_append : (p : ℕ → Bool) (a b : List ℕ) → list_all p a ≡ true → list_all p b ≡ true → list_all p (a ++ b) ≡ true
-all_append p [] b front back = back
-all_append p (x ∷ a) b front back =
-    let both = and_parts (p x) (list_all p a) front in and_from (p x) (list_all p (a ++ b)) both.0 (all_append p a b both.1 back)
 
 sound_tells : (letter : ℕ) → is_sound letter ≡ true → (33 ≤ letter) × ((letter ≡ 35 → ⊥) × (letter ≡ 92 → ⊥))
 sound_tells letter sound =
@@ -110,10 +105,7 @@ uncommented_plain (letter ∷ next ∷ more) plain =
 
 -- its words
 no_blank : (letter : ℕ) → is_sound letter ≡ true → is_blank letter ≡ false
-no_blank letter sound = let told = sound_tells letter sound in or_apart (nat_eq letter 32) (nat_eq letter 9) (ne_eqb letter 32 (λ e. omega arith)) (ne_eqb letter 9 (λ e. omega arith))
-  where
-    or_apart : (a b : Bool) → a ≡ false → b ≡ false → (a || b) ≡ false
-    or_apart a b x y = ap (λ t. t || b) x ∙ y
+no_blank letter sound = let told = sound_tells letter sound in or_from (nat_eq letter 32) (nat_eq letter 9) (ne_eqb letter 32 (λ e. omega arith)) (ne_eqb letter 9 (λ e. omega arith))
 
 words_parted : (word : List ℕ) (words : List (List ℕ)) → AreWords (word ∷ words) → words_of (word ++ behind 32 words) ≡ word ∷ words
 words_parted word [] are =
@@ -178,9 +170,9 @@ number-is =
     decimal_by_steps IsNumber
     (λ n below. record { digit = one_true (is_ascii_digit (48 + n)) (is-digit n below); value = omega arith; sound = one_true (is_sound (48 + n)) (digit_sound n below) })
     (λ n ds some is. record {
-      digit = all_append is_ascii_digit ds ((48 + n % 10) ∷ []) is.digit (one_true (is_ascii_digit (48 + n % 10)) (is-digit (n % 10) (omega arith)));
+      digit = list_all_both is_ascii_digit ds ((48 + n % 10) ∷ []) is.digit (one_true (is_ascii_digit (48 + n % 10)) (is-digit (n % 10) (omega arith)));
       value = value_more 0 ds (48 + n % 10) ∙ ap (λ v. v * 10 + (48 + n % 10 - 48)) is.value ∙ omega arith;
-      sound = all_append is_sound ds ((48 + n % 10) ∷ []) is.sound (one_true (is_sound (48 + n % 10)) (digit_sound (n % 10) (omega arith)));
+      sound = list_all_both is_sound ds ((48 + n % 10) ∷ []) is.sound (one_true (is_sound (48 + n % 10)) (digit_sound (n % 10) (omega arith)));
     })
 
 wide : (n : ℕ) → n < 10 ^ 9 → n < 2 ^ 64

@@ -13,6 +13,7 @@ use Rattle.std.specs.Str.Lines.{lines}
 use Rattle.uu_names.proofs.GradeTables.{letter_at, grade_bytes_at, rank_of_letter}
 use Rattle.uu_names.specs.Name.{is_site_byte, is_site_name, has_form, site_name_of}
 use Rattle.uu_names.specs.declared.fault.NameFault.TheVariants.{TooLong}
+use Rattle.uu_names.proofs.Basics.{list_all_both}
 use Rattle.uu_times.specs.declared.directive.Directive.TheVariants.{Begin, Time, Retries, SuccessWait}
 use Rattle.uu_times.specs.declared.fault.TimeFault.TheVariants.{SystemTwice, TooManyLines}
 use Rattle.uu_times.specs.declared.system.Line.{Line}
@@ -27,7 +28,7 @@ use Rattle.uu_times.specs.SysFile.{Part, lines_or, system_of, sys_file_of}
 use Rattle.uu_times.specs.System.{System, HasRetry, IsRetry, most_retries, most_retry_minutes, most_success_wait}
 use Rattle.uu_times.specs.Tables.{predefined_tables}
 use Rattle.uu_times.proofs.FileLemmas.{seen_with, file_agrees}
-use Rattle.uu_times.proofs.PrintedLines.{is_sound, IsWord, AreWords, AreLines, all_append, digit_sound, one_true, taken, lines-taken, number-word, number-read}
+use Rattle.uu_times.proofs.PrintedLines.{is_sound, IsWord, AreWords, AreLines, digit_sound, one_true, taken, lines-taken, number-word, number-read}
 use Rattle.uu_times.proofs.PrintedWindows.{IsPart, AreParts, parts-of, time_read}
 
 -- ---- words
@@ -61,9 +62,9 @@ two_sound n below =
 
 hours_sound : (hours : Hours) → hours.from_hour < 100 → hours.from_minute < 100 → hours.to_hour < 100 → hours.to_minute < 100 → list_all is_sound (hours_text (Some hours)) ≡ true
 hours_sound hours a b c d =
-    all_append is_sound (two_digits hours.from_hour) (two_digits hours.from_minute ++ (45 ∷ (two_digits hours.to_hour ++ two_digits hours.to_minute))) (two_sound hours.from_hour a)
-    (all_append is_sound (two_digits hours.from_minute) (45 ∷ (two_digits hours.to_hour ++ two_digits hours.to_minute)) (two_sound hours.from_minute b)
-    (all_append is_sound (two_digits hours.to_hour) (two_digits hours.to_minute) (two_sound hours.to_hour c) (two_sound hours.to_minute d)))
+    list_all_both is_sound (two_digits hours.from_hour) (two_digits hours.from_minute ++ (45 ∷ (two_digits hours.to_hour ++ two_digits hours.to_minute))) (two_sound hours.from_hour a)
+    (list_all_both is_sound (two_digits hours.from_minute) (45 ∷ (two_digits hours.to_hour ++ two_digits hours.to_minute)) (two_sound hours.from_minute b)
+    (list_all_both is_sound (two_digits hours.to_hour) (two_digits hours.to_minute) (two_sound hours.to_hour c) (two_sound hours.to_minute d)))
 
 hours_of_sound : (minutes : ℕ × ℕ) → IsPart minutes → list_all is_sound (hours_text (hours_of minutes)) ≡ true
 hours_of_sound minutes is =
@@ -96,19 +97,19 @@ day_some wk rest = omega arith
 day_some any rest = omega arith
 
 piece_sound : (piece : Piece) → IsPart piece.1 → list_all is_sound (piece_text piece) ≡ true
-piece_sound piece is = all_append is_sound (word_name piece.0) (hours_text (hours_of piece.1)) (day_sound piece.0) (hours_of_sound piece.1 is)
+piece_sound piece is = list_all_both is_sound (word_name piece.0) (hours_text (hours_of piece.1)) (day_sound piece.0) (hours_of_sound piece.1 is)
 
 behind_sound : (pieces : List Piece) → AreParts pieces → list_all is_sound (behind 44 (map piece_text pieces)) ≡ true
 behind_sound [] are = refl
 behind_sound (piece ∷ pieces) are =
-    all_append is_sound (piece_text piece) (behind 44 (map piece_text pieces)) (piece_sound piece are.0) (behind_sound pieces are.1)
+    list_all_both is_sound (piece_text piece) (behind 44 (map piece_text pieces)) (piece_sound piece are.0) (behind_sound pieces are.1)
 
 pieces_word : (pieces : List Piece) → AreParts pieces → IsWord (pieces_text pieces)
 pieces_word [] are = (omega arith, refl)
 pieces_word (piece ∷ pieces) are = (
   subst (λ (t : List ℕ). 0 < length t) (sym (append_assoc (word_name piece.0) (hours_text (hours_of piece.1)) (behind 44 (map piece_text pieces))))
       (day_some piece.0 (hours_text (hours_of piece.1) ++ behind 44 (map piece_text pieces))),
-  all_append is_sound (piece_text piece) (behind 44 (map piece_text pieces)) (piece_sound piece are.0) (behind_sound pieces are.1),
+  list_all_both is_sound (piece_text piece) (behind 44 (map piece_text pieces)) (piece_sound piece are.0) (behind_sound pieces are.1),
 )
 
 time_word : (runs : List (ℕ × ℕ)) → IsWord (time_text runs)

@@ -119,10 +119,6 @@ pub extended : {E : Type 0} (result : Result (Unit {0}) E) (old new more wanted 
 extended (Ok done) old new more wanted is same = is ∙ ap (λ t. old ++ t) same
 extended (Err fault) old new more wanted is same = tt
 
-pub ok_later : {E P Q : Type 0} (result : Result (Unit {0}) E) → (P → Q) → OnOk result P → OnOk result Q
-ok_later (Ok done) later is = later is
-ok_later (Err fault) later is = tt
-
 -- a system's lines
 pub times_text : (times : List Line) → flat_map line_text (map time_words times) ≡ flat_map (λ line. line_text (time_words line)) times
 times_text [] = refl

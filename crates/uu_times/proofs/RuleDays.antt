@@ -2,7 +2,8 @@
 use Rattle.std.proofs.Common.{◌≡◌, ℕ, zero, suc, ◌+◌, ◌-◌, ◌*◌, ◌%◌, ◌<◌, ◌≤◌, Bool, true, false, cond, leb, ltb, ◌&&◌, ◌==◌, ℤ, pos, ◌+ℤ◌, Some, inl, inr, refl, ap, sym, ◌∙◌, subst, arith}
 use Rattle.std.specs.Prelude.{IsTrue}
 use Rattle.std.proofs.lemmas.Bool.Decides.{leb_tells, eqb_tells, nat_tests}
-use Rattle.std.proofs.Math.Bool.{and-false}
+use Rattle.std.proofs.Math.Bool.{and-false, and-true}
+use Rattle.std.proofs.lemmas.Option.{same_Some}
 use Rattle.jiff_core.specs.Calendar.{IsCivilDate, days_from_civil, days_in_month, days_in_year, days_of_months, day_of_year, is_leap_year}
 use Rattle.jiff_core.proofs.CalendarLemmas.{days_from_civil-day_count, day_count-day_of_year, day_count-day, days_in_month_bounds, days_of_months-zero, days_of_months_more, days_of_months_mono, days_of_months_table, days_of_months_all, day_of_year_before, weekday_number-add, weekday_number-parts}
 use Rattle.jiff_core.proofs.MarchLemmas.{leap_day}
@@ -35,10 +36,6 @@ in_month year (suc months) n low high = elim (leb_tells n (days_of_months year m
       (suc months, n - days_of_months year months, omega arith, omega arith, omega arith, omega arith, rw back (omega arith))
 ]
 
-and_true : (b : Bool) → (b && true) ≡ b
-and_true true = refl
-and_true false = refl
-
 -- a date comes a day later in a leap year, from 1 March on, which is day 60
 place_in : (year : ℤ) (month date n : ℕ) → IsCivilDate (pos 1970) month date → day_of_year (pos 1970) month date ≡ n
     → day_of_year year month date ≡ n + (cond (is_leap_year year && leb 60 n) 1 0)
@@ -58,7 +55,7 @@ place_in year month date n there place =
           let after : ltb 1 (month - 1) ≡ true = grind (arith, nat_tests) in
           let table_after = rw after at table in
           let plain_after = rw after at plain in
-          rw (sixty, and_true (is_leap_year year)) (omega arith)
+          rw (sixty, and-true (is_leap_year year)) (omega arith)
       | inr early ↦
           let second = early.1 in
           let before = day_of_year_before (pos 1970) month date 2 months.0 days.1 (omega arith) in
@@ -225,14 +222,11 @@ named_there year (JulianZero n) in_range has = (days_from_civil year 1 1 +ℤ po
 named_there year (WeekdayOfMonth month week weekday) in_range has =
     weekday_there year month week weekday (grind (arith, nat_tests)) (grind (arith, nat_tests)) (grind (arith, nat_tests))
 
-some_same : (a b : ℤ) → Some a ≡ Some b → a ≡ b
-some_same a b e = cc
-
 pub one_day : (year : ℤ) (named : Day) → IsTrue (is_rule_day named) → HasDay year named → IsOneDay year named
 one_day year named in_range has =
     let found = named_there year named in_range has in
     record {
       day = found.0;
       is = found.1;
-      only = λ other is. some_same other found.0 (sym (named_is year named other in_range is) ∙ named_is year named found.0 in_range found.1);
+      only = λ other is. same_Some other found.0 (sym (named_is year named other in_range is) ∙ named_is year named found.0 in_range found.1);
     }

@@ -2,6 +2,8 @@
 use Rattle.std.proofs.Common.{◌≡◌, ℕ, suc, ◌<◌, ◌≤◌, negsuc, Bool, true, false, not, cond, ◌&&◌, ◌||◌, ℤ, pos, ◌+ℤ◌, ◌-ℤ◌, ◌*ℤ◌, ◌<ℤ◌, ◌≤ℤ◌, int_le, int_lt, Option, Some, None, refl, ap, sym, ◌∙◌, subst, arith, unsigned_abs}
 use Rattle.std.specs.Prelude.{option_map, if◌then◌else◌}
 use Rattle.std.specs.Int.{int_div_euclid}
+use Rattle.std.proofs.Math.Bool.{or-true, or-false}
+use Rattle.uu_names.proofs.Basics.{lt-int_lt}
 use Rattle.jiff_core.specs.Calendar.{IsYear, days_from_civil, days_in_year, day_count, days_of_years}
 use Rattle.jiff_core.specs.Timestamp.{nanos_of_seconds}
 use Rattle.jiff_core.specs.declared.Offset.{Offset}
@@ -32,12 +34,6 @@ not_at_most a b h = elim (int_le a b) as (λ t. int_le a b ≡ t → t ≡ false
   | false ↦ λ e. refl
 ] refl
 
-less : (a b : ℤ) → a <ℤ b → int_lt a b ≡ true
-less a b h = elim (int_lt a b) as (λ t. int_lt a b ≡ t → t ≡ true) [
-  | true ↦ λ e. refl
-  | false ↦ λ e. absurd (omega (arith, signed_arith))
-] refl
-
 at_most : (a b : ℤ) → a ≤ℤ b → int_le a b ≡ true
 at_most a b h = elim (int_le a b) as (λ t. int_le a b ≡ t → t ≡ true) [
   | true ↦ λ e. refl
@@ -53,7 +49,7 @@ same_order a b = elim (int_le a b) as (λ t. int_le a b ≡ t → int_le (nanos_
 
 same_less : (a b : ℤ) → int_lt (nanos_of_seconds a) (nanos_of_seconds b) ≡ int_lt a b
 same_less a b = elim (int_lt a b) as (λ t. int_lt a b ≡ t → int_lt (nanos_of_seconds a) (nanos_of_seconds b) ≡ t) [
-  | true ↦ λ e. less (nanos_of_seconds a) (nanos_of_seconds b) (omega (arith, signed_arith))
+  | true ↦ λ e. lt-int_lt (nanos_of_seconds a) (nanos_of_seconds b) (omega (arith, signed_arith))
   | false ↦ λ e. not_less (nanos_of_seconds a) (nanos_of_seconds b) (omega (arith, signed_arith))
 ] refl
 
@@ -95,21 +91,13 @@ window_is begin end second =
           let past : int_lt second end ≡ false = not_less second end (omega (arith, signed_arith)) in
           rw past (by_begin (int_lt second begin) refl)
       | false ↦ λ e.
-          let before : int_lt second end ≡ true = less second end (omega (arith, signed_arith)) in
-          rw before (sym (or_true (int_le begin second)))
+          let before : int_lt second end ≡ true = lt-int_lt second end (omega (arith, signed_arith)) in
+          rw before (sym (or-true (int_le begin second)))
     ] refl
       where
-        or_true : (b : Bool) → (b || true) ≡ true
-        or_true true = refl
-        or_true false = refl
-
-        or_false : (b : Bool) → (b || false) ≡ b
-        or_false true = refl
-        or_false false = refl
-
         by_begin : (t : Bool) → int_lt second begin ≡ t → not t ≡ (int_le begin second || false)
-        by_begin true e = sym (or_false (int_le begin second) ∙ not_at_most begin second (omega (arith, signed_arith)))
-        by_begin false e = sym (or_false (int_le begin second) ∙ at_most begin second (omega (arith, signed_arith)))
+        by_begin true e = sym (or-false (int_le begin second) ∙ not_at_most begin second (omega (arith, signed_arith)))
+        by_begin false e = sym (or-false (int_le begin second) ∙ at_most begin second (omega (arith, signed_arith)))
 
 -- the window of a year within which both changes lie
 window_found : (standard : Offset) (daylight : Dst) (year begin end : ℤ) → IsYear year → ChangesInside standard.seconds (dst_view daylight) year begin end

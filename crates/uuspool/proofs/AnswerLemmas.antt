@@ -1,7 +1,6 @@
 -- What is handed out of a spool, as the state has it.
-use Rattle.std.proofs.Common.{◌≡◌, ℕ, Bool, List, [], ◌∷◌, length, All, find, Option, Some, None, Result, Ok, Err, IfSome, ap, option_map, refl, subst}
-use Rattle.std.proofs.lemmas.Bool.{cond_both}
-use Rattle.std.proofs.lemmas.List.Elements.{All-head, All-tail}
+use Rattle.std.proofs.Common.{◌≡◌, ℕ, List, length, All, find, Option, Some, None, Result, Ok, Err, IfSome, ap, option_map, refl, subst}
+use Rattle.uu_names.proofs.Basics.{found_has}
 use Rattle.sqlite.specs.Store.{Ghosts}
 use Rattle.uu_map.specs.Entry.{IsEntry}
 use Rattle.uu_map.specs.Entry as map
@@ -50,12 +49,6 @@ as_broken_off commands old new replies kind ran = record {
   };
   clean = ran.clean;
 }
-
--- what each element has, the one that is found has
-pub found_has : {X : Type 0} (P : X → Type 0) (test : X → Bool) (xs : List X) → All P xs → IfSome (find test xs) P
-found_has P test [] all = tt
-found_has P test (x ∷ xs) all =
-    cond_both (test x) (Some x) (find test xs) (λ found. IfSome found P) (λ _. All-head P x xs all) (λ _. found_has P test xs (All-tail P x xs all))
 
 -- a fault that isn't out of memory is the text's
 pub has_fault : (text : List ℕ) (why : MapFault) → (let answer : Result Entry MapFault = Err why in map.IsAnswer text answer) → (why ≡ entry_fault.Memory → ⊥) → host_of text ≡ Err why

@@ -1,13 +1,16 @@
 -- How a batch goes from request to request.
-use Rattle.std.proofs.Common.{◌≡◌, ◌≤◌, ◌∙◌, ◌+◌, ◌++◌, ◌∷◌, inl, inr, ℕ, Bool, true, false, true≢false, not, List, [], Option, None, Some, Result, Ok, Err, IfErr, IfOk, IfSome, length, length-append, ap, append-nil, append_assoc, refl, subst, sym}
+use Rattle.std.proofs.Common.{◌≡◌, ◌≤◌, ◌∙◌, ◌+◌, ◌++◌, ◌∷◌, inl, inr, ℕ, Bool, true, false, true≢false, List, [], Option, None, Some, Result, Ok, Err, IfErr, IfOk, IfSome, length, ap, append-nil, append_assoc, refl, subst, sym}
 use Rattle.std.specs.Prelude.{◌⊎◌}
 use Rattle.std.specs.List.{AllByRecursion, FoldsTo, flat_map}
 use Rattle.std.specs.Io.KnownBytes.{Appends, Consumes}
 use Rattle.std.proofs.KnownBytes.{Appends-nil, Appends-trans, Consumes-nil, Consumes-trans}
 use Rattle.std.proofs.lemmas.List.Concat.{flat_map-append}
+use Rattle.std.proofs.lemmas.Fn.{FoldsTo-push}
+use Rattle.std.proofs.lemmas.List.{length_push}
 use Rattle.sqlite.specs.Store.{Ghosts}
 use Rattle.uu_frame.specs.Frames.{BeginsWithHeadWithin, IsHead, head_line, request_frame}
 use Rattle.uu_names.specs.Text.{most_text}
+use Rattle.uu_names.proofs.Basics.{all_push}
 use Rattle.uu_settings.specs.declared.settings.Settings.{Settings}
 use Rattle.uu_store.specs.declared.spool.Spool.{Spool}
 use Rattle.uuspool.specs.Batch.{BreaksOff, EndsWith, IsBatch, IsNext, IsOfStream, IsRequestLine, IsUntold, answer_of, fault_answer, frame_of, most_requests}
@@ -18,16 +21,6 @@ use Rattle.uuspool.specs.declared.batching.Step.{Step}
 use Rattle.uuspool.specs.declared.batching.Step.TheVariants as step
 use Rattle.uuspool.specs.declared.fault.Fault.{Fault}
 use Rattle.uuspool.specs.declared.fault.Fault.TheVariants as fault
-
--- ---- what a flag says
-
-pub not_true : (b : Bool) → not b ≡ true → b ≡ false
-not_true true is = sym is
-not_true false is = refl
-
-pub not_false : (b : Bool) → not b ≡ false → b ≡ true
-not_false true is = refl
-not_false false is = sym is
 
 -- ---- one line more
 
@@ -48,17 +41,6 @@ off_more (first ∷ lines) line (inr later) = inr (off_more lines line later)
 off_now : (lines : List ServedLine) (line : ServedLine) → goes_on line.result ≡ false → SomeStops (lines ++ line ∷ [])
 off_now [] line stops = inl stops
 off_now (first ∷ lines) line stops = inr (off_now lines line stops)
-
-all_more : (P : ServedLine → Type 0) (lines : List ServedLine) (line : ServedLine) → AllByRecursion P lines → P line → AllByRecursion P (lines ++ line ∷ [])
-all_more P [] line all here = (here, tt)
-all_more P (first ∷ lines) line (p, all) here = (p, all_more P lines line all here)
-
-one_counted : (lines : List ServedLine) (line : ServedLine) (count : ℕ) → length lines ≡ count → length (lines ++ line ∷ []) ≡ count + 1
-one_counted lines line count counted = length-append lines (line ∷ []) ∙ ap (λ n. n + 1) counted
-
-folds_more : {C : Type 0} (R : C → ServedLine → C → Type 0) (c : C) (lines : List ServedLine) (d : C) (line : ServedLine) (e : C) → FoldsTo R c lines d → R d line e → FoldsTo R c (lines ++ line ∷ []) e
-folds_more R c [] d line e same step = (e, subst (λ x. R x line e) (sym same) step, refl)
-folds_more R c (first ∷ lines) d line e (j, here, rest) step = (j, here, folds_more R j lines d line e rest step)
 
 flat_more : (f : ServedLine → List ℕ) (lines : List ServedLine) (line : ServedLine) → flat_map f lines ++ f line ≡ flat_map f (lines ++ line ∷ [])
 flat_more f lines line = ap (λ back. flat_map f lines ++ back) (sym (append-nil (f line))) ∙ sym (flat_map-append f lines (line ∷ []))
@@ -128,7 +110,7 @@ pub record SoFar {S : Type 0} {g : Ghosts S} {C : Type 0} (settings : Settings) 
 -- after a line the next is served if those before it and it go on
 on_then : (failed goes : Bool) (lines : List ServedLine) (line : ServedLine) → (failed ≡ false → AllGoOn lines) → (failed ≡ true → line.result ≡ Err left_fault)
     → goes ≡ goes_on line.result → goes ≡ true → AllGoOn (lines ++ line ∷ [])
-on_then false goes lines line on left is went = all_more (λ (l : ServedLine). goes_on l.result ≡ true) lines line (on refl) (sym is ∙ went)
+on_then false goes lines line on left is went = all_push (λ (l : ServedLine). goes_on l.result ≡ true) lines line (on refl) (sym is ∙ went)
 on_then true goes lines line on left is went = absurd (true≢false (sym went ∙ is ∙ ap goes_on (left refl)))
 
 off_then : (failed goes : Bool) (lines : List ServedLine) (line : ServedLine) → (failed ≡ false → AllGoOn lines) → (failed ≡ true → SomeStops lines)
@@ -162,12 +144,12 @@ module _ {S : Type 0} {g : Ghosts S} {C : Type 0} (settings : Settings) (Tells :
         → SoFar settings Tells after (count + 1) clock later old new had rest held more
     one_more_so_far goes after fails on (line, next, consumes, appends, is) = record {
       lines = so.lines ++ line ∷ [];
-      counted = one_counted so.lines line count so.counted;
+      counted = length_push so.lines line ∙ ap (λ n. n + 1) so.counted;
       served = lines_then failed so.lines line now later old mid new so.served so.on so.off next;
       on = λ no. on_then failed goes so.lines line so.on (λ was. (next.left was).1) is (on no);
       off = λ yes. off_then failed goes so.lines line so.on so.off is (fails yes);
-      requests = all_more IsRequestLine so.lines line so.requests next.request;
-      clock_told = folds_more (λ earlier (l : ServedLine) later. Tells earlier l.now later) clock so.lines now line later so.clock_told next.told;
+      requests = all_push IsRequestLine so.lines line so.requests next.request;
+      clock_told = FoldsTo-push (λ earlier (l : ServedLine) later. Tells earlier l.now later) clock so.lines now line later so.clock_told next.told;
       read = subst (Consumes had rest) (flat_more frame_of so.lines line) (Consumes-trans had left rest (flat_map frame_of so.lines) (frame_of line) so.read consumes);
       answered = subst (Appends held more) (flat_more answer_of so.lines line) (Appends-trans held holds more (flat_map answer_of so.lines) (answer_of line) so.answered appends);
     }
@@ -211,8 +193,8 @@ module _ {S : Type 0} {g : Ghosts S} {C : Type 0} (settings : Settings) (Tells :
             lines = so.lines ++ line ∷ [];
             served = served;
             run = law (so.lines ++ line ∷ []) old new served;
-            requests = all_more IsRequestLine so.lines line so.requests next.request;
-            clock_told = (later, folds_more (λ earlier (l : ServedLine) later. Tells earlier l.now later) clock so.lines now line later so.clock_told next.told);
+            requests = all_push IsRequestLine so.lines line so.requests next.request;
+            clock_told = (later, FoldsTo-push (λ earlier (l : ServedLine) later. Tells earlier l.now later) clock so.lines now line later so.clock_told next.told);
             left = rest;
             read = subst (Consumes had rest) (flat_more frame_of so.lines line) (Consumes-trans had left rest (flat_map frame_of so.lines) (frame_of line) so.read consumes);
             answered = tt;

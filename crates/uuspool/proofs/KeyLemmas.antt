@@ -9,6 +9,7 @@ use Rattle.std.proofs.lemmas.Cmp.{ranked}
 use Rattle.std.specs.Ordering.{MatchOrdering, is_eq, nat_cmp, ordering_then}
 use Rattle.std.specs.declared.cmp.Ordering.{Ordering}
 use Rattle.std.specs.declared.cmp.Ordering.TheVariants.{Less, Equal, Greater}
+use Rattle.std.proofs.Math.Bool.{or-false}
 use Rattle.uu_bundle.specs.Bundles.{records_text, text_with_refused}
 use Rattle.uu_bundle.specs.Texts.{record_text}
 use Rattle.uu_bundle.specs.declared.bundle.Record.TheVariants.{No}
@@ -55,11 +56,7 @@ pub keys_more : (number mark : ℕ) (commands : List Command) (i : ℕ) (command
 keys_more number mark commands i command inside is =
     sym (ap (list_any (is_of_key number mark)) (take_more commands i command inside ∙ ap (λ c. take i commands ++ c ∷ []) (sym is))
     ∙ list_any-append (is_of_key number mark) (take i commands) (command ∷ [])
-    ∙ ap (λ b. list_any (is_of_key number mark) (take i commands) || b) (alone (is_of_key number mark command)))
-  where
-    alone : (b : Bool) → (b || false) ≡ b
-    alone true = refl
-    alone false = refl
+    ∙ ap (λ b. list_any (is_of_key number mark) (take i commands) || b) (or-false (is_of_key number mark command)))
 
 -- the row that was taken is of one of the keys
 pub handed_in : (one : Taken) (commands : List Command) → list_any (is_of_key one.number one.mark) commands ≡ list_any (hands_in one) commands

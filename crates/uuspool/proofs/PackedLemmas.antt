@@ -1,13 +1,14 @@
 -- What `pack` and `answer` print is the text of a bundle, which says what a site may say.
-use Rattle.std.proofs.Common.{◌≡◌, ◌∙◌, ℕ, ◌<◌, ◌≤◌, ◌^◌, min, length, Bool, true, false, cond, ◌==◌, ◌&&◌, ◌||◌, List, [], ◌∷◌, ◌++◌, map, filter, find, All, Contains, Option, Some, None, IfSome, option_map, unwrap_or, ap, ap₂, arith, refl, subst, sym}
+use Rattle.std.proofs.Common.{◌≡◌, ◌∙◌, ℕ, ◌<◌, ◌≤◌, ◌^◌, min, length, Bool, true, false, cond, ◌==◌, ◌&&◌, ◌||◌, List, [], ◌∷◌, ◌++◌, map, find, All, Contains, Option, Some, None, IfSome, option_map, unwrap_or, ap, arith, refl, subst, sym}
 use Rattle.std.specs.Prelude.{IsTrue, nat_le}
 use Rattle.std.specs.List.{list_any}
-use Rattle.std.proofs.lemmas.List.Elements.{All-append, All-contains_itself, All-cons, All-filter, All-head, All-map, All-nil, All-tail, All-weaker}
+use Rattle.std.proofs.lemmas.List.Elements.{All-append, All-contains_itself, All-cons, All-filter, All-head, All-map, All-nil, All-tail, All-weaker, filter_agree}
 use Rattle.std.proofs.lemmas.List.Kept.{AllPairs-filter}
 use Rattle.std.proofs.lemmas.List.Sorted.{All-permutation}
 use Rattle.sqlite_keyed.proofs.ListLemmas.{filter-map}
 use Rattle.uu_names.specs.Grade.{grade_count}
 use Rattle.uu_names.specs.Name.{is_site_name, is_word}
+use Rattle.uu_names.proofs.Basics.{found_has}
 use Rattle.uu_bundle.specs.Bundles.{AreTaken, IsBundle, IsGiven, answer_front_text, answer_bundle, bundle_text, front_text, jobs_with_room, packed_bundle, takes_job, told_of, told_with_room, text_with_refused, most_told}
 use Rattle.uu_bundle.specs.Texts.{IsHeading, IsRefused, heading_text, record_text}
 use Rattle.uu_bundle.specs.declared.bundle.Bundle.{Bundle}
@@ -33,7 +34,6 @@ use Rattle.uu_request.specs.Carried as carried
 use Rattle.uu_request.specs.declared.request.Answering.{Answering}
 use Rattle.uu_request.specs.declared.request.Packing.{Packing}
 use Rattle.uuspool.specs.Bundles.{AreToGo, AreToGoUnless, IsAnswerText, IsBundleText, IsPacked, answer_of, bundle_of, hands_in, heading_for, parcel_for, parcels_for, refused_among, refused_for, taken_among}
-use Rattle.uuspool.proofs.AnswerLemmas.{found_has}
 
 pub packed_text : (known : Bool) (IsText : List ℕ → Type 0) (output : List ℕ) → IsPacked known IsText output 0 → IsText output
 packed_text true IsText output it = it.0
@@ -219,14 +219,10 @@ module _ (system : List ℕ) (make : Packed → NewJob) (s : State) where
   same_asked one [] = refl
   same_asked one (packed ∷ asked) = ap (λ rest. (packed.parcel.number == one.number && packed.mark == one.mark) || rest) (same_asked one asked)
 
-  same_kept : (p q : Taken → Bool) → ((x : Taken) → p x ≡ q x) → (xs : List Taken) → filter p xs ≡ filter q xs
-  same_kept p q same [] = refl
-  same_kept p q same (x ∷ xs) = ap₂ (λ b rest. cond b (x ∷ rest) rest) (same x) (same_kept p q same xs)
-
   told_is : (asked : List Packed) → map carried.told_job (map told_of (taken_among (map handed asked) (link_of s system).taken)) ≡ asked_of system s asked
   told_is asked =
       said_told (taken_among (map handed asked) (link_of s system).taken)
-      ∙ ap (map handover.told_of) (same_kept (λ one. list_any (hands_in one) (map handed asked)) (λ one. is_asked asked (handover.told_of one)) (λ one. same_asked one asked) (link_of s system).taken)
+      ∙ ap (map handover.told_of) (filter_agree (λ (one : Taken). list_any (hands_in one) (map handed asked)) (λ (one : Taken). is_asked asked (handover.told_of one)) (λ (one : Taken). same_asked one asked) (link_of s system).taken)
       ∙ sym (filter-map (is_asked asked) handover.told_of (link_of s system).taken)
 
   -- and so is what would be refused of them

@@ -3,6 +3,7 @@ use Rattle.std.proofs.Common.{◌≡◌, ◌∙◌, ◌==◌, ◌&&◌, ◌||◌
 use Rattle.std.specs.List.{list_any}
 use Rattle.std.proofs.lemmas.Bool.Decides.{nat_tests}
 use Rattle.std.proofs.lemmas.List.Elements.{All-head, All-tail, All-weaker}
+use Rattle.uu_names.proofs.Basics.{filter_all}
 use Rattle.uu_bundle.specs.declared.bundle.Told.{Told}
 use Rattle.uu_core.specs.After.{is_released}
 use Rattle.uu_handover.specs.Bundles.{is_settled, settled_of}
@@ -13,13 +14,13 @@ use Rattle.uu_core.specs.State.{IsWellFormed, Job, State, is_job, same_text}
 use Rattle.uu_request.specs.declared.request.Settling.{Settling}
 use Rattle.uuspool.specs.Bundles.{as_told, is_had, mark_for, release_of, rising, settled_by}
 use Rattle.uuspool.specs.Internal.Asked.{is_job_told}
-use Rattle.uuspool.proofs.WaitingLemmas.{all_found, all_passes, settled_by_number}
+use Rattle.uuspool.proofs.WaitingLemmas.{all_found, settled_by_number}
 
 -- ---- the command
 
 -- what is let go, if there is anything, goes
 released : (s : State) (system numbers : List ℕ) → state_after s (release_of system numbers) ≡ record s { jobs = filter (λ job. not (is_released system numbers job)) s.jobs }
-released s system [] = ap (λ jobs. record s { jobs = jobs }) (sym (all_passes s.jobs))
+released s system [] = ap (λ jobs. record s { jobs = jobs }) (sym (filter_all s.jobs))
 released s system (number ∷ numbers) = refl
 
 -- ---- tests of lists

@@ -1,13 +1,16 @@
 -- The jobs that wait for a system, as they are found among those that are listed.
-use Rattle.std.proofs.Common.{◌≡◌, ◌∙◌, ℕ, zero, suc, ◌<◌, get_or, ◌==◌, min, Bool, true, false, true≢false, cond, ◌&&◌, ◌||◌, List, [], ◌∷◌, map, filter, find, All, AllPairs, IsPermutation, Option, Some, None, option_map, unwrap_or, ap, ap₂, arith, refl, subst}
+use Rattle.std.proofs.Common.{◌≡◌, ◌∙◌, ℕ, zero, suc, ◌<◌, get_or, ◌==◌, min, Bool, true, false, true≢false, cond, ◌&&◌, ◌||◌, List, [], ◌∷◌, map, filter, find, All, AllPairs, IsPermutation, Option, Some, None, option_map, unwrap_or, ap, arith, refl, subst}
 use Rattle.std.specs.Prelude.{nat_le}
 use Rattle.std.specs.List.{fold, list_any}
 use Rattle.std.specs.Ordering.{is_gt}
 use Rattle.std.specs.declared.cmp.Ordering.{Ordering}
 use Rattle.std.proofs.lemmas.Bool.Decides.{nat_tests}
-use Rattle.std.proofs.lemmas.List.Elements.{All-cons, All-filter, All-head, All-nil, All-tail}
+use Rattle.std.proofs.lemmas.List.Elements.{All-cons, All-filter, All-head, All-nil, All-tail, filter_agree}
 use Rattle.std.proofs.lemmas.List.Kept.{AllPairs-filter}
 use Rattle.std.proofs.lemmas.List.Sorted.{All-permutation, IsPermutation-cons, IsPermutation-middle, IsPermutation-refl, IsPermutation-sym, IsPermutation-trans}
+use Rattle.std.proofs.lemmas.Bool.{eq-eqb}
+use Rattle.std.proofs.Math.Bool.{and_comm}
+use Rattle.uu_names.proofs.Basics.{filter_all, find_same, lt-eqb, find-map}
 use Rattle.sqlite_keyed.specs.Lists.{insert_sorted, sort_by}
 use Rattle.sqlite_keyed.proofs.ListLemmas.{filter-map}
 use Rattle.sqlite_keyed.proofs.SortLemmas.{sort_by-map}
@@ -50,23 +53,11 @@ module _ {X : Type 0} (cmp : X → X → Ordering) (p : X → Bool) where
       with_first true same = IsPermutation-cons x _ _ same
       with_first false same = same
 
-pub all_passes : {X : Type 0} (xs : List X) → filter (λ x. true) xs ≡ xs
-all_passes [] = refl
-all_passes (x ∷ xs) = ap (λ rest. x ∷ rest) (all_passes xs)
-
 all_sorted : {X : Type 0} (cmp : X → X → Ordering) (xs : List X) → IsPermutation (sort_by cmp xs) xs
 all_sorted cmp xs =
-    subst (λ l. IsPermutation (sort_by cmp xs) l) (all_passes xs)
-    (subst (λ l. IsPermutation l (filter (λ x. true) xs)) (all_passes (sort_by cmp xs))
+    subst (λ l. IsPermutation (sort_by cmp xs) l) (filter_all xs)
+    (subst (λ l. IsPermutation l (filter (λ x. true) xs)) (filter_all (sort_by cmp xs))
     (sorted_kept cmp (λ x. true) xs))
-
-same_kept : {X : Type 0} (p q : X → Bool) → ((x : X) → p x ≡ q x) → (xs : List X) → filter p xs ≡ filter q xs
-same_kept p q same [] = refl
-same_kept p q same (x ∷ xs) = ap₂ (λ b rest. cond b (x ∷ rest) rest) (same x) (same_kept p q same xs)
-
-same_found : {X : Type 0} (p q : X → Bool) → ((x : X) → p x ≡ q x) → (xs : List X) → find p xs ≡ find q xs
-same_found p q same [] = refl
-same_found p q same (x ∷ xs) = ap₂ (λ b rest. cond b (Some x) rest) (same x) (same_found p q same xs)
 
 -- ---- the least number of a list
 
@@ -128,16 +119,10 @@ all_found (first ∷ jobs) rise =
     (all_found jobs (λ i j d below inside. rise (suc i) (suc j) d (omega (arith, below)) (omega (arith, inside))) k d within))
   where
     itself : (number : ℕ) (rest : Option Job) → cond (number == number) (Some first) rest ≡ Some first
-    itself number rest = ap (λ b. cond b (Some first) rest) (the number)
-      where
-        the : (n : ℕ) → (n == n) ≡ true
-        the n = grind (arith, nat_tests)
+    itself number rest = ap (λ b. cond b (Some first) rest) (eq-eqb number number refl)
 
     other : (one number : ℕ) (rest found : Option Job) → one < number → rest ≡ found → cond (one == number) (Some first) rest ≡ found
-    other one number rest found less is = ap (λ b. cond b (Some first) rest) (differ one number less) ∙ is
-      where
-        differ : (a b : ℕ) → a < b → (a == b) ≡ false
-        differ a b l = grind (arith, nat_tests, l)
+    other one number rest found less is = ap (λ b. cond b (Some first) rest) (lt-eqb one number less) ∙ is
 
 -- ---- one of a number, in a list that is sorted
 
@@ -173,14 +158,6 @@ module _ {X : Type 0} (p : X → Bool) where
         found_inserted x (sort_by cmp xs)
         (All-permutation (λ y. p x ≡ true → p y ≡ false) xs (sort_by cmp xs) (IsPermutation-sym _ _ (all_sorted cmp xs)) (λ k d within. apart zero (suc k) d (omega arith) (omega (arith, within))))
         ∙ ap (λ rest. cond (p x) (Some x) rest) (found_sorted xs (λ i j d below within. apart (suc i) (suc j) d (omega (arith, below)) (omega (arith, within))))
-
-find_mapped : {X Y : Type 0} (f : X → Y) (p : Y → Bool) (xs : List X) → find p (map f xs) ≡ option_map f (find (λ x. p (f x)) xs)
-find_mapped f p [] = refl
-find_mapped f p (x ∷ xs) =
-    elim (p (f x)) as (λ b. cond b (Some (f x)) (find p (map f xs)) ≡ option_map f (cond b (Some x) (find (λ y. p (f y)) xs))) [
-      | true ↦ refl
-      | false ↦ find_mapped f p xs
-    ]
 
 -- ---- the jobs that wait
 
@@ -237,23 +214,17 @@ module _ (it : Packing) (lowest : ℕ) (s : State) where
   named_is good None = refl
   named_is good (Some number) =
       ap (find (λ (head : JobHead). head.number == number)) (heads_are it.system s)
-      ∙ find_mapped head_of (λ (head : JobHead). head.number == number) (sorted_jobs it.system s)
+      ∙ find-map (λ (head : JobHead). head.number == number) head_of (sorted_jobs it.system s)
       ∙ ap (option_map head_of)
       (found_sorted (λ (job : Job). job.number == number) by_heads (filter (waits it.system) s.jobs)
       (AllPairs-filter (λ (a b : Job). (a.number == number) ≡ true → (b.number == number) ≡ false) (waits it.system) s.jobs
       (λ i j d below within. apart (get_or s.jobs i d).number (get_or s.jobs j d).number (good.rising i j d below within)))
       ∙ find_kept (λ (job : Job). job.number == number) (waits it.system) s.jobs
-      ∙ same_found (λ (job : Job). waits it.system job && job.number == number) (λ (job : Job). job.number == number && same_text job.system it.system)
-      (λ job. ap (λ b. b && job.number == number) (waits_is it.system job) ∙ other_way (same_text job.system it.system) (job.number == number)) s.jobs)
+      ∙ find_same (λ (job : Job). waits it.system job && job.number == number) (λ (job : Job). job.number == number && same_text job.system it.system)
+      (λ job. ap (λ b. b && job.number == number) (waits_is it.system job) ∙ and_comm (same_text job.system it.system) (job.number == number)) s.jobs)
     where
       apart : (a b : ℕ) → a < b → (a == number) ≡ true → (b == number) ≡ false
       apart a b less is = grind (arith, nat_tests, less, is)
-
-      other_way : (a b : Bool) → (a && b) ≡ (b && a)
-      other_way true true = refl
-      other_way true false = refl
-      other_way false true = refl
-      other_way false false = refl
 
   behind_is : (named : Option Job) (job : Job) → is_head_behind (option_map head_of named) (head_of job) ≡ is_behind named job
   behind_is None job = refl
@@ -273,11 +244,11 @@ module _ (it : Packing) (lowest : ℕ) (s : State) where
     where
       chosen : filter (goes it lowest s) (filter (waits it.system) s.jobs) ≡ jobs_to it.system (Some lowest) it.after s
       chosen =
-          same_kept (goes it lowest s) (λ (job : Job). is_up_to (Some lowest) job.grade && is_behind (named_job it.system it.after s) job)
+          filter_agree (goes it lowest s) (λ (job : Job). is_up_to (Some lowest) job.grade && is_behind (named_job it.system it.after s) job)
           (λ job. ap (λ named. nat_le job.grade lowest && is_head_behind named (head_of job)) (named_is good it.after) ∙ ap (λ b. nat_le job.grade lowest && b) (behind_is (named_job it.system it.after s) job))
           (filter (waits it.system) s.jobs)
           ∙ ap (filter (λ (job : Job). is_up_to (Some lowest) job.grade && is_behind (named_job it.system it.after s) job))
-          (same_kept (waits it.system) (λ (job : Job). same_text job.system it.system) (waits_is it.system) s.jobs)
+          (filter_agree (waits it.system) (λ (job : Job). same_text job.system it.system) (waits_is it.system) s.jobs)
 
   -- each is there under its number
   pub are_there : IsWellFormed s → All (λ job. job_at s job.number ≡ Some job) (jobs_to_go it lowest s)
@@ -298,7 +269,7 @@ module _ (it : Packing) (lowest : ℕ) (s : State) where
       ap (λ heads. fold min s.next (map (λ (head : JobHead). head.number) heads)) (heads_are it.system s)
       ∙ ap (fold min s.next) (numbers_of (sorted_jobs it.system s))
       ∙ least_sorted (λ (job : Job). job.number) by_heads s.next (filter (waits it.system) s.jobs)
-      ∙ ap (λ jobs. fold min s.next (map (λ (job : Job). job.number) jobs)) (same_kept (waits it.system) (λ (job : Job). same_text job.system it.system) (waits_is it.system) s.jobs)
+      ∙ ap (λ jobs. fold min s.next (map (λ (job : Job). job.number) jobs)) (filter_agree (waits it.system) (λ (job : Job). same_text job.system it.system) (waits_is it.system) s.jobs)
       ∙ least_is_first (λ (job : Job). job.number) (λ (job : Job). same_text job.system it.system) s.next s.jobs good.rising good.below_next
 
 -- ---- what is settled

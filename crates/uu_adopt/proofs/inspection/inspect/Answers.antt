@@ -1,9 +1,9 @@
 use Rattle.std.proofs.Common.{Ok, Err, subst, arith}
+use Rattle.uu_rows.proofs.Showing.{answered}
 use Rattle.sqlite.specs.Held.{state}
 use Rattle.uu_schema.specs.declared.fault.StoreFault.TheVariants.{Foreign, Newer}
 use Rattle.uu_schema.specs.declared.version.Version.TheVariants.{Third}
 use Rattle.uu_adopt.specs.Adoption.{Finds}
-use Rattle.uu_schema.proofs.Resting.{answered}
 use Rattle.uu_adopt.proofs.Inspecting.{inspected_spool, inspected_foreign, inspected_later, inspected_err, inspects_told, spared_err}
 use Rattle.uu_adopt.proofs.inspection.inspect.Goals as goal
 

@@ -2,8 +2,9 @@
 use Rattle.std.proofs.Common.{◌≡◌, List, ℕ, Some, cond, nat_cmp, sym, ap, ◌∙◌}
 use Rattle.std.specs.BTreeMap.{get, is_at}
 use Rattle.std.specs.Cmp.Lexicographic.{slice_cmp, texts_ties}
+use Rattle.uu_names.proofs.Basics.{text_from}
 use Rattle.uu_core.specs.State.{same_text}
-use Rattle.uu_core.proofs.DueLemmas.{lowered, with_limit, same_is}
+use Rattle.uu_core.proofs.DueLemmas.{lowered, with_limit}
 use Rattle.uu_core.proofs.callable.lower.Goals as goal
 use Rattle.uu_core.proofs.callable.lower.Goals.{in-Some, in-None}
 
@@ -20,4 +21,4 @@ returns c other grade =
       | in-Some w ↦ w.lowest-is ∙ w.lower_of-lowest.ensures ∙ sym (ap (λ o. with_limit o c.args.lowest) w.in-Some.is)
       | in-None w ↦ w.lowest-is ∙ sym (ap (λ o. with_limit o c.args.lowest) w.in-None.is)
     ] in
-    lowered (get (slice_cmp nat_cmp) map other) _ c.args.lowest c.match-copied.lowest (same_text name other) grade c.copied.result new (λ same. found ∙ ap (get (slice_cmp nat_cmp) map) (same_is name other same)) lowest
+    lowered (get (slice_cmp nat_cmp) map other) _ c.args.lowest c.match-copied.lowest (same_text name other) grade c.copied.result new (λ same. found ∙ ap (get (slice_cmp nat_cmp) map) (text_from name other same)) lowest

@@ -2,10 +2,11 @@
 use Rattle.std.proofs.Common.{◌≡◌, ◌<◌, ◌&&◌, ◌+◌, ◌++◌, ◌∷◌, [], take, drop, map, length, get_or, List, None, true, not, cond, nat_cmp, Bor, IsPermutation, sym, ap, subst, ◌∙◌, arith, append-nil}
 use Rattle.std.specs.BTreeMap.{get}
 use Rattle.std.specs.Cmp.Lexicographic.{slice_cmp, texts_ties}
-use Rattle.std.proofs.lemmas.List.{take_more, drop_all, length-map}
+use Rattle.std.proofs.lemmas.List.{take_more, drop_all, length-map, get_or-map}
+use Rattle.uu_names.proofs.Basics.{and_first}
 use Rattle.uu_core.specs.declared.job.JobHead.{JobHead}
 use Rattle.uu_core.specs.Due.{is_within, may_be_called, may_go, due_of, AreDue, AreInOrder}
-use Rattle.uu_core.proofs.DueLemmas.{is_next, walk, walk_after, is_called_before, free_listed, free_passed, step_listed, step_passed, walk_is_due, map_at, and-left}
+use Rattle.uu_core.proofs.DueLemmas.{is_next, walk, walk_after, is_called_before, free_listed, free_passed, step_listed, step_passed, walk_is_due}
 use Rattle.uu_core.proofs.due.choose.Goals as goal
 use Rattle.uu_core.proofs.due.choose.Goals.{then-is_free+in_ok-list, else-is_free}
 
@@ -20,13 +21,13 @@ loop-job-preserved c =
     let job = c.job-item.result.now in
     let count : length all ≡ length items = length-map items now in
     let within : i < length all = omega arith in
-    let job_is : get_or all i job ≡ job = map_at now items i job c.job-item.result (omega arith) ∙ ap now (sym c.job-item.is) in
+    let job_is : get_or all i job ≡ job = get_or-map now items i c.job-item.result job (omega arith) ∙ ap now (sym c.job-item.is) in
     let next : is_next rows at (take i all) job ≡ c.is_free.result = sym (c.is_free.ensures ∙ c.loop-job.invariant.free job.system job.grade) in
     let next_there : is_next rows at (take i all) (get_or all i job) ≡ c.is_free.result = ap (is_next rows at (take i all)) job_is ∙ next in
     let seen : take i all ++ job ∷ [] ≡ take (i + 1) all = ap (λ j. take i all ++ j ∷ []) (sym job_is) ∙ sym (take_more all i job within) in
     elim c.if-is_free.branch [
       | then-is_free+in_ok-list w ↦
-          let may : may_go rows at job ≡ true = and-left (may_go rows at job) _ (next ∙ w.if-is_free.true) in
+          let may : may_go rows at job ≡ true = and_first (may_go rows at job) _ (next ∙ w.if-is_free.true) in
           let due : w.list.new.dues.items ≡ c.loop-job.dues.items ++ due_of (get_or all i job) ∷ [] =
           w.in_ok-list.ensures ∙ ap (λ j. c.loop-job.dues.items ++ due_of j ∷ []) (sym job_is) in
           record {

@@ -2,6 +2,7 @@
 use Rattle.std.proofs.Common.{◌≡◌, ◌≢◌, ℕ, not, ◌<◌, ◌⊎◌, ◌||◌, ◌&&◌, Bool, Option, true, false, get_or, Some, None, inl, inr, refl, sym, ◌∙◌, arith, ltb}
 use Rattle.std.specs.Option.{is_some}
 use Rattle.std.proofs.lemmas.Bool.Decides.{nat_tests}
+use Rattle.std.proofs.lemmas.Bool.{both_ways}
 use Rattle.uu_names.specs.Name.{is_site_byte, is_word_byte}
 use Rattle.uu_names.specs.Path.{is_bang}
 use Rattle.uu_names.proofs.PathScan.{scan_all, bad_within, bad_at_end, loop_bang, loop_byte, is_path, is_long}
@@ -40,14 +41,11 @@ returns-then-not-is_word_byte c =
     bad_within c.args.bytes.now c.loop-at.at b _ _ _ _ c.loop-at.invariant.scanned (omega arith) refl (inr (bang, site, why))
 
 some_at : (o : Option ℕ) (r : Bool) → is_some o ≡ not r → r ≡ false → o ≢ None
-some_at None r e t = λ _. false-true r t (flip r e)
+some_at None r e t = λ _. both_ways r t (flip r e)
   where
     flip : (r : Bool) → false ≡ not r → r ≡ true
     flip true e = refl
     flip false e = cc
-
-    false-true : (r : Bool) → r ≡ false → r ≡ true → ⊥
-    false-true r p q = cc
 some_at (Some k) r e t = λ q. cc
 
 yes_at : (a b : Bool) → b ≡ a → not b ≡ false → a ≡ true
@@ -80,7 +78,7 @@ loop-at-preserved c =
           elim w.else-not-of_site.branch [
             | else-not-of_site-via-then-not-of_site+else-not-is_word_byte w' ↦
                 elim w'.if-is_none.branch [
-                  | then-is_none w'' ↦ absurd (apart w'.if-is_none.value (w''.value-is ∙ w''.if-is_none.true) w'.if-not-is_word_byte.false)
+                  | then-is_none w'' ↦ absurd (both_ways w'.if-is_none.value w'.if-not-is_word_byte.false (w''.value-is ∙ w''.if-is_none.true))
                   | else-is_none w'' ↦ inr (some_at c.loop-at.first_bang w'.is_none.result w'.is_none.ensures w''.if-is_none.false, yes_at (is_word_byte b) w''.is_word_byte.result w''.is_word_byte.ensures (sym w''.value-is ∙ w'.if-not-is_word_byte.false))
                 ]
             | else-not-of_site-via-else-not-of_site w' ↦ inl w'.if-not-of_site.false
@@ -96,9 +94,6 @@ loop-at-preserved c =
             short = omega arith;
           }
     ]
-  where
-    apart : (v : Bool) → v ≡ true → v ≡ false → ⊥
-    apart v p q = cc
 
 pub returns-then-long_site-2 : goal.returns-then-long_site-2
 returns-then-long_site-2 c =

@@ -14,16 +14,13 @@ pub loop-found-init : goal.loop-found-init
 loop-found-init c =
     subst (λ (w : List ℕ). HasRead c.args.message.now w [] first_marker 0) (sym c.new-way.ensures.items) (read_none c.args.message.now)
 
-rest_of_text : (text : List ℕ) (body : ℕ) → take (length text - body) (drop body text) ≡ drop body text
-rest_of_text text body = take_rest text body
-
 -- if the rest of the text stops, the text stops there
 stopped : (text marker : List ℕ) (body : ℕ) → Stops marker (raw_lines (take (length text - body) (drop body text))) → Stops marker (raw_lines (drop body text))
-stopped text marker body stops = subst (λ (t : List ℕ). Stops marker (raw_lines t)) (rest_of_text text body) stops
+stopped text marker body stops = subst (λ (t : List ℕ). Stops marker (raw_lines t)) (take_rest text body) stops
 
 pub loop-found-preserved : goal.loop-found-preserved
 loop-found-preserved c =
-    let next = subst (λ (t : List ℕ). BeginsWithSender c.loop-found.marker.now t c.in-Some.found.user.now c.in-Some.found.site.now c.in-Some.found.line_len) (rest_of_text c.args.message.now c.loop-found.body) c.in-Some.ensures in
+    let next = subst (λ (t : List ℕ). BeginsWithSender c.loop-found.marker.now t c.in-Some.found.user.now c.in-Some.found.site.now c.in-Some.found.line_len) (take_rest c.args.message.now c.loop-found.body) c.in-Some.ensures in
     let k = read_more c.args.message.now _ _ _ c.loop-found.body c.in-Some.found.user.now c.in-Some.found.site.now c.in-Some.found.line_len c.loop-found.invariant next in
     let e : c.push.new.self.items ≡ c.loop-found.way.items ++ c.in-Some.found.site.now ++ 33 ∷ [] = c.in_ok-push.ensures.items ∙ ap (λ t. t ++ 33 ∷ []) c.in_ok-extend_from_slice.ensures.items in
     subst (λ (w : List ℕ). HasRead c.args.message.now w c.in-Some.found.user.now later_marker (c.loop-found.body + c.in-Some.found.line_len)) (sym e) k

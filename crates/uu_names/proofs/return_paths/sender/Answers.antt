@@ -1,8 +1,10 @@
 -- What is read is a leading line, and a leading line is read as what it says.
-use Rattle.std.proofs.Common.{◌≡◌, ◌+◌, ◌-◌, ◌<◌, ◌==◌, ℕ, Bool, true, false, length, nat_eq, sym, ap, ◌∙◌, Some, None, position, arith}
+use Rattle.std.proofs.Common.{◌≡◌, ◌+◌, ◌-◌, ◌<◌, ◌==◌, true, false, length, nat_eq, sym, ap, ◌∙◌, position, arith}
 use Rattle.std.specs.List.{suffix_len, ends_with}
 use Rattle.std.proofs.lemmas.Bool.Decides.{nat_tests}
 use Rattle.std.proofs.lemmas.List.Sums.{suffix_len-le-length}
+use Rattle.std.proofs.lemmas.Bool.{both_ways}
+use Rattle.std.proofs.lemmas.Option.{none-some}
 use Rattle.uu_names.specs.Name.{is_site_name}
 use Rattle.uu_names.specs.ReturnPath.{is_no_space}
 use Rattle.uu_names.proofs.PathScan.{form_some}
@@ -10,19 +12,13 @@ use Rattle.uu_names.proofs.ReturnSenders.{leading_from, is_read, ReadsAs, reads_
 use Rattle.uu_names.proofs.return_paths.sender.Goals as goal
 use Rattle.uu_names.proofs.return_paths.sender.Goals.{then-is_empty-via-then-is_empty, then-is_empty-via-else-is_empty+then-not-ends_with, then-is_empty-via-else-is_empty+else-not-ends_with+then-not-is_site_name}
 
-apart : (b : Bool) → b ≡ true → b ≡ false → ⊥
-apart b p q = cc
-
-none-some : {n : ℕ} → None ≡ Some n → ⊥
-none-some q = cc
-
 pub overflow_sub-back : goal.overflow_sub-back
 overflow_sub-back c = omega (arith, c.last_word_len.ensures, suffix_len-le-length is_no_space c.split_at.result.1.now)
 
 pub returns-in_err-rest : goal.returns-in_err-rest
 returns-in_err-rest c =
     rw c.from_residual.ensures
-    (λ sender leading. apart _ (is_read c.args.marker.now c.args.line.now sender leading).starts c.in_err-rest.ensures.cases)
+    (λ sender leading. both_ways _ c.in_err-rest.ensures.cases (is_read c.args.marker.now c.args.line.now sender leading).starts)
 
 pub returns-in_err-user_len : goal.returns-in_err-user_len
 returns-in_err-user_len c =
@@ -30,7 +26,7 @@ returns-in_err-user_len c =
     (λ sender leading.
     let r = is_read c.args.marker.now c.args.line.now sender leading in
     let rest = c.in_ok-rest.ensures.cases.1 ∙ r.rest in
-    none-some (c.in_err-user_len.ensures ∙ ap (position (λ b. b == 32)) rest ∙ r.space))
+    none-some _ (c.in_err-user_len.ensures ∙ ap (position (λ b. b == 32)) rest ∙ r.space))
 
 pub returns-then-is_empty : goal.returns-then-is_empty
 returns-then-is_empty c sender leading =
@@ -44,9 +40,9 @@ returns-then-is_empty c sender leading =
           let none : length c.split_at.result.0.now ≡ 0 = grind (arith, nat_tests, c.is_empty.ensures, w.if-is_empty.true) in
           omega (arith, none, ap length same.same_user, form_some is_no_space sender.user leading.user)
       | then-is_empty-via-else-is_empty+then-not-ends_with w ↦
-          apart _ (ap (λ t. ends_with nat_eq t remote) same.same_front ∙ r.ends) (sym w.ends_with.ensures.value ∙ w.if-not-ends_with.true)
+          both_ways _ (sym w.ends_with.ensures.value ∙ w.if-not-ends_with.true) (ap (λ t. ends_with nat_eq t remote) same.same_front ∙ r.ends)
       | then-is_empty-via-else-is_empty+else-not-ends_with+then-not-is_site_name w ↦
-          apart _ (ap is_site_name same.same_site ∙ leading.site) (sym w.is_site_name.ensures ∙ w.if-not-is_site_name.true)
+          both_ways _ (sym w.is_site_name.ensures ∙ w.if-not-is_site_name.true) (ap is_site_name same.same_site ∙ leading.site)
     ]
 
 pub returns : goal.returns

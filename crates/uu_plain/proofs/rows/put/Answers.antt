@@ -3,9 +3,9 @@ use Rattle.std.specs.List.{insert}
 use Rattle.std.specs.declared.cmp.Ordering.TheVariants.{Less, Equal, Greater}
 use Rattle.std.specs.Cmp.Lexicographic.{slice_cmp}
 use Rattle.std.proofs.lemmas.List.Elements.{All-more}
+use Rattle.uu_names.proofs.Basics.{all_from_take}
 use Rattle.uu_core.specs.After.{put_by}
 use Rattle.uu_plain.proofs.PlainLemmas.{made_of, item_stands, put_before, put_instead, put_last}
-use Rattle.uu_core.proofs.Members.{all_of}
 use Rattle.uu_plain.proofs.rows.put.Goals as goal
 
 pub returns-in-Less-clause-done : goal.returns-in-Less-clause-done
@@ -58,4 +58,4 @@ returns-clause-done g c =
     let item = c.args.item in
     let past : length all ≤ i = omega (arith, c.loop-i.items.ok.0, ap length c.loop-i.invariant.same) in
     made_of (λ l. l ++ item ∷ []) c.loop-i.items.items all c.push.new.self.items (put_by name item all) c.in_ok-push.ensures.items c.loop-i.invariant.same
-    (put_last name item all (all_of (λ x. slice_cmp nat_cmp (name item) (name x) ≡ Greater) all i past c.loop-i.invariant.passed))
+    (put_last name item all (all_from_take (λ x. slice_cmp nat_cmp (name item) (name x) ≡ Greater) all i past c.loop-i.invariant.passed))

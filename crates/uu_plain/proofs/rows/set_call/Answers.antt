@@ -1,9 +1,9 @@
 use Rattle.std.proofs.Common.{◌≡◌, ◌<◌, ◌≤◌, ◌∙◌, false, true, length, get_or, ap, sym, refl, arith}
 use Rattle.std.proofs.lemmas.List.{get_or_default}
+use Rattle.uu_names.proofs.Basics.{all_from_take}
 use Rattle.uu_core.specs.declared.system.SystemRow.{SystemRow}
 use Rattle.uu_core.specs.State.{is_system, same_text}
 use Rattle.uu_plain.proofs.PlainLemmas.{call_set, no_call_set}
-use Rattle.uu_core.proofs.Members.{all_of}
 use Rattle.uu_plain.proofs.rows.set_call.Goals as goal
 
 pub returns-then-eq : goal.returns-then-eq
@@ -27,4 +27,4 @@ pub returns : goal.returns
 returns c =
     let all = c.args.rows.now in
     let past : length all ≤ c.loop-i.i = omega (arith, c.loop-i.auto.rows, c.loop-i-test.false) in
-    c.loop-i.invariant.same ∙ no_call_set c.args.name.now c.args.call all (all_of (λ (row : SystemRow). is_system c.args.name.now row ≡ false) all c.loop-i.i past c.loop-i.invariant.passed)
+    c.loop-i.invariant.same ∙ no_call_set c.args.name.now c.args.call all (all_from_take (λ (row : SystemRow). is_system c.args.name.now row ≡ false) all c.loop-i.i past c.loop-i.invariant.passed)

@@ -1,8 +1,8 @@
-use Rattle.std.proofs.Common.{◌∙◌, length, map, refl, ap, arith}
-use Rattle.std.proofs.lemmas.List.{take_all}
+use Rattle.std.proofs.Common.{◌∙◌, length, map, refl, ap, arith, ◌+◌}
+use Rattle.std.proofs.lemmas.List.{take_all, length_push}
 use Rattle.uu_tables.specs.TakeInPlans.{fact_of}
 use Rattle.uu_questions.proofs.Asking.{asks_as, asks_both, asks_beside, asks_refused}
-use Rattle.uu_questions.proofs.Offers.{mapped_more, one_longer}
+use Rattle.uu_questions.proofs.Offers.{mapped_more}
 use Rattle.uu_questions.proofs.bundle.facts_of_jobs.Goals as goal
 
 pub returns-in_err-fact-clause-asks : goal.returns-in_err-fact-clause-asks
@@ -19,7 +19,7 @@ loop-offered-preserved g c =
           (λ s good so_far it known.
           c.in_ok-push.ensures.items
           ∙ mapped_more (fact_of s c.args.from.now) c.args.jobs.now i offered c.loop-offered.facts.items c.in_ok-fact.fact (omega arith) (so_far known) (it known ∙ ap (fact_of s c.args.from.now) c.offered-item.is)),
-      ap length c.in_ok-push.ensures.items ∙ one_longer c.loop-offered.facts.items c.in_ok-fact.fact i c.loop-offered.invariant.1,
+      ap length c.in_ok-push.ensures.items ∙ length_push c.loop-offered.facts.items c.in_ok-fact.fact ∙ ap (λ n. n + 1) c.loop-offered.invariant.1,
     )
 
 pub returns-clause-asks : goal.returns-clause-asks

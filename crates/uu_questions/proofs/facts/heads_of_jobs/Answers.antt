@@ -1,8 +1,8 @@
 use Rattle.std.proofs.Common.{◌≡◌, map, refl, sym, ap, ◌∙◌, arith, ◌++◌, append-nil}
 use Rattle.std.proofs.lemmas.List.{take_all}
+use Rattle.uu_names.proofs.Basics.{find-map}
 use Rattle.uu_core.specs.State.{head_of}
 use Rattle.uu_questions.proofs.Asking.{asks_as, asks_both, asks_beside, asks_refused}
-use Rattle.uu_questions.proofs.Finding.{found_mapped}
 use Rattle.uu_questions.proofs.FoundJobs.{found_in, found_more, are_found, one_or_none}
 use Rattle.uu_questions.proofs.facts.heads_of_jobs.Goals as goal
 use Rattle.uu_questions.proofs.facts.heads_of_jobs.Goals.{in-Some+in_ok-push, in_default}
@@ -22,7 +22,7 @@ loop-number-preserved g c =
       | in_default w ↦ ap (λ v. v.items) w.found-is ∙ sym (append-nil c.loop-number.found.items) ∙ ap (λ o. c.loop-number.found.items ++ one_or_none o) (sym w.in_default.is)
     ] in
     asks_both c.loop-number.invariant refl c.head_of_job.ensures c.in_ok-head.was
-    (λ s good so_far head. pushed ∙ found_more (map head_of s.jobs) numbers i c.loop-number.found.items c.in_ok-head.field-0 (omega arith) so_far (head ∙ sym (found_mapped _ head_of s.jobs)))
+    (λ s good so_far head. pushed ∙ found_more (map head_of s.jobs) numbers i c.loop-number.found.items c.in_ok-head.field-0 (omega arith) so_far (head ∙ sym (find-map _ head_of s.jobs)))
 
 pub returns : goal.returns
 returns g c =

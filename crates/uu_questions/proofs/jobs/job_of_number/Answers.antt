@@ -1,9 +1,9 @@
 use Rattle.std.proofs.Common.{◌≡◌, Ok, None, IfSome, length, option_map, sym, subst, ◌∙◌}
-use Rattle.std.proofs.lemmas.Result.{IfOk-weaker}
+use Rattle.std.proofs.lemmas.Result.{IfOk-weaker, IfOk-from_err}
 use Rattle.sqlite.specs.Held.{state}
 use Rattle.uu_core.specs.State.{job_at}
 use Rattle.uu_questions.specs.Listing.{handed_out, head_and_bytes}
-use Rattle.uu_questions.proofs.Answering.{then_answers, answers_as, answer_in, both_ok, none_ok, none_answered}
+use Rattle.uu_questions.proofs.Answering.{then_answers, answers_as, answer_in, both_ok, none_ok}
 use Rattle.uu_rows.proofs.Showing.{answered}
 use Rattle.uu_questions.proofs.JobBytes.{handed, not_there}
 use Rattle.uu_questions.proofs.jobs.job_of_number.Goals as goal
@@ -37,4 +37,4 @@ returns-in_err-bytes-clause-answers g c =
     let d = state g.S.Store c.bytes_of_job.new.conn in
     let r = c.from_residual-in_err-bytes.result in
     let fails = c.from_residual-in_err-bytes.ensures.0 in
-    then_answers _ a b c.head_of_job.result c.head_of_job.ensures.answers (answered _ _ c.in_ok-head.was) _ d c.bytes_of_job.result c.bytes_of_job.ensures.answers _ r (none_ok r c.bytes_of_job.result fails) (λ s good h k. none_answered _ r fails)
+    then_answers _ a b c.head_of_job.result c.head_of_job.ensures.answers (answered _ _ c.in_ok-head.was) _ d c.bytes_of_job.result c.bytes_of_job.ensures.answers _ r (none_ok r c.bytes_of_job.result fails) (λ s good h k. IfOk-from_err r _ fails)

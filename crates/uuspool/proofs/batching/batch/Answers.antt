@@ -1,5 +1,6 @@
 use Rattle.std.proofs.Common.{◌∙◌, Result, Ok, ap, arith, not, refl, subst}
-use Rattle.uuspool.proofs.BatchLemmas.{batch_broken, batch_ended, batch_full, none_so_far, not_false, not_true, one_more_so_far}
+use Rattle.std.proofs.lemmas.Bool.{not-true, not-false}
+use Rattle.uuspool.proofs.BatchLemmas.{batch_broken, batch_ended, batch_full, none_so_far, one_more_so_far}
 use Rattle.uuspool.specs.Internal.BatchSteps.{IsBatchStep}
 use Rattle.uuspool.specs.declared.batching.Step.{Step}
 use Rattle.uuspool.specs.declared.fault.Fault.{Fault}
@@ -47,7 +48,7 @@ loop-count-preserved g c =
     c.args.spool.now c.loop-count.spool c.answer_next.new.spool
     (g.R.Read.remaining c.args.reader.now) (g.R.Read.remaining c.loop-count.reader) (g.R.Read.remaining c.answer_next.new.reader)
     (g.W.Write.contents c.args.out.now) (g.W.Write.contents c.loop-count.out) (g.W.Write.contents c.answer_next.new.out) c.loop-count.invariant
-    c.in-Ok-Answered.goes_on (not c.in-Ok-Answered.goes_on) (not_true c.in-Ok-Answered.goes_on) (not_false c.in-Ok-Answered.goes_on)
+    c.in-Ok-Answered.goes_on (not c.in-Ok-Answered.goes_on) (not-true c.in-Ok-Answered.goes_on) (not-false c.in-Ok-Answered.goes_on)
     (subst (λ (r : Result Step Fault).
     IsBatchStep c.args.settings.now g.C.Clock.tells c.loop-count.failed c.loop-count.clock c.answer_next.new.clock c.loop-count.spool c.answer_next.new.spool
     (g.R.Read.remaining c.loop-count.reader) (g.R.Read.remaining c.answer_next.new.reader) (g.W.Write.contents c.loop-count.out) (g.W.Write.contents c.answer_next.new.out) r)

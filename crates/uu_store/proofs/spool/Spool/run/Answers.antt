@@ -1,9 +1,9 @@
 use Rattle.std.proofs.Common.{List, ◌≡◌, ◌∷◌, [], ◌++◌, length, sym, ap, subst, ◌∙◌, append_assoc, append-nil, arith}
-use Rattle.std.proofs.lemmas.List.{length-append}
+use Rattle.std.proofs.lemmas.List.{length-append, nil_from_length}
 use Rattle.std.specs.Vec.Iter.{into_iter_items}
 use Rattle.uu_core.specs.declared.command.Reply.{Reply}
 use Rattle.uu_store.specs.Spool.{connection_of}
-use Rattle.uu_store.proofs.Running.{Running, running_more, none_left, ran_every, ran_stopped}
+use Rattle.uu_store.proofs.Running.{Running, running_more, ran_every, ran_stopped}
 use Rattle.uu_store.proofs.spool.Spool.run.Goals as goal
 
 pub loop-command-preserved : goal.loop-command-preserved
@@ -34,6 +34,6 @@ returns-in-Err-clause-ran g c =
 pub returns-clause-ran : goal.returns-clause-ran
 returns-clause-ran g c =
     let at = c.loop-command in
-    let none : into_iter_items at.command-iterator ≡ [] = none_left (into_iter_items at.command-iterator) (sym at.invariant.1 ∙ c.in-None.ensures.steps.0) in
+    let none : into_iter_items at.command-iterator ≡ [] = nil_from_length (into_iter_items at.command-iterator) (sym at.invariant.1 ∙ c.in-None.ensures.steps.0) in
     let all : at.yielded ≡ c.args.commands.items = sym (append-nil at.yielded) ∙ ap (λ l. at.yielded ++ l) (sym none) ∙ at.invariant.0 ∙ c.into_iter-command-iterator.ensures.into_iter_gives.0 in
     ran_every c.args.self.now c.args.commands.items at.self at.yielded at.replies.items (g.met.S.Store.settled (connection_of at.self).store) all at.invariant.2
