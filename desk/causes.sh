@@ -511,6 +511,13 @@ refuse_init() {
     finish
 }
 
+# The program has no `init`, so this command prints its help.
+help_of_init() {
+    printf '%s\n' 'Makes the spool, once' '' 'Usage: uuspool init' 2>/dev/null && end 0
+    printf 'uuspool: cannot write\n' >&2
+    end 5
+}
+
 # Makes the spool, if nothing is there, or the word that a spool lacks.
 init() {
     traits=asks count=0

@@ -175,7 +175,7 @@ pub record HappenedOver (name : List ℕ) (first : State) (before : Image) (stre
 -- ---- what follows
 
 -- The files of each site keep the state after commands that count there. By these messages come
--- once over the lines, and nothing hinders them except what would hinder any message.
+-- once over the lines, and each waiting job is free.
 pub record ComeOnceInFiles (chart : Chart) (count : ℕ) (first : ℕ → State) (stretches : ℕ → List FileStretch) (left : ℕ → Image) (lines : List ℕ) : Type 0 where
   pub counted : ℕ → List Command
   pub count_is : (site : ℕ) → site < count → Passes (first site) (file_exchanges (stretches site)) (counted site)

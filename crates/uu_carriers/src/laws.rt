@@ -63,8 +63,8 @@ pub fn texts_go_around()
 }
 
 /// So over any lines between sites with spools in files messages come once, with any carrier, if
-/// each bundle that was packed was what its site had to say (`IsInFiles`). Nothing hinders a
-/// waiting job except what would hinder any job.
+/// each bundle that was packed was what its site had to say (`IsInFiles`). No waiting job would be
+/// refused as `Stale` or `Differs`.
 pub fn messages_come_once_in_texts<H: Sites>()
     ensures { (places : Places) (count : ℕ) (first : ℕ → State) (acts : List Act) (lines : List ℕ)
         → AreApart places → AreAmong (chart_of places) count first lines → GoInTexts places [] acts → GoOn (map deed_of acts)
@@ -83,7 +83,7 @@ pub fn messages_come_once_in_texts<H: Sites>()
 /// reports a job to a neighbour as gone, hands one in or forgets one under its name, or removes it.
 ///
 /// Then messages come once over any lines between the sites, by the commands that count in their
-/// files. Nothing hinders a waiting job except what would hinder any job.
+/// files. No waiting job would be refused as `Stale` or `Differs`.
 pub fn messages_come_once_in_lines<H: Sites>()
     ensures { (places : Places) (count : ℕ) (first : ℕ → State) (steps : List Step) (lines : List ℕ)
         → AreSites places count → AreAmong (chart_of places) count first lines → AreWithin count steps → GoInLines places [] steps

@@ -109,7 +109,7 @@ AreAmong chart count first (line ∷ lines) =
 
 -- ---- what follows
 
--- over no line anything hinders a job except what would hinder any job
+-- over every line each waiting job is free
 abbrev pub AreFreeOverAll : Chart → Course → List ℕ → Type 0
 AreFreeOverAll chart course [] = ⊤
 AreFreeOverAll chart course (line ∷ lines) = IsFreeOver chart course line × AreFreeOverAll chart course lines

@@ -174,12 +174,12 @@ GoesByBundles crossing bundles (deed ∷ deeds) = IsByLines crossing bundles dee
 
 -- ---- what follows
 
--- both databases store states by which jobs have come once, and nothing hinders a job that waits
+-- both databases store states by which jobs have come once, and each waiting job is free
 pub record CameInBundlesOver (crossing : Crossing) (a b : State) (deeds : List (Deed Side)) (one other : db.State) : Type 0 where
   pub store : StoreOnce crossing a b (events_of crossing deeds) one other
   pub free : NothingIsInTheWay crossing a store.sent b store.received
 
--- The files of both keep states by which jobs have come once, and nothing hinders a job that waits.
+-- The files of both keep states by which jobs have come once, and each waiting job is free.
 pub record CameInBundles (crossing : Crossing) (a b : State) (deeds : List (Deed Side)) (one other : Image) : Type 0 where
   pub keep : KeepOnce crossing a b (events_of crossing deeds) one other
   pub free : NothingIsInTheWay crossing a keep.sent b keep.received

@@ -95,8 +95,8 @@ pub record AreOfWorld (crossing : Crossing) (events : List Event) (sender : Stat
   pub handed_is : world.handed ≡ handed_in crossing receiver received
   pub heard : ForgetsWhatWasSaid crossing nothing_sent events → world.is_heard ≡ true
 
--- Nothing hinders a job that waits for the receiver except what would hinder any job. (`IsFree` of
--- a world only looks at the receiver's state.)
+-- Each job that waits for the receiver is free. (`IsFree` of a world only looks at the receiver's
+-- state.)
 abbrev pub NothingIsInTheWay : Crossing → State → List Command → State → List Command → Type 0
 NothingIsInTheWay crossing sender sent receiver received =
     (job : Job) (new : NewJob) → Contains (state_after sender sent).jobs job → job.system ≡ crossing.to → IsFree crossing (start (state_after sender sent) (state_after receiver received)) job new

@@ -26,7 +26,7 @@ abbrev pub ComeOnceOverAll : Chart → Course → List ℕ → Type 0
 ComeOnceOverAll chart course [] = ⊤
 ComeOnceOverAll chart course (line ∷ lines) = ComeOnceOver chart course line × ComeOnceOverAll chart course lines
 
--- over a line nothing hinders a job except what would hinder any job
+-- over a line each waiting job is free
 abbrev pub IsFreeOver : Chart → Course → ℕ → Type 0
 IsFreeOver chart course line =
     NothingIsInTheWay (chart.crossing line) (course.first (chart.begins line)) (course.counted (chart.begins line)) (course.first (chart.ends line)) (course.counted (chart.ends line))

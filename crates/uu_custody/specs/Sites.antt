@@ -29,7 +29,7 @@ AllHandOver chart count first before stretches events [] = ⊤
 AllHandOver chart count first before stretches events (line ∷ lines) =
     HandsOver chart count first before stretches line (events line) × AllHandOver chart count first before stretches events lines
 
--- over each line, nothing hinders a job if the end forgets only what was said
+-- over each line, each waiting job is free if the end forgets only what was said
 abbrev pub AllAreFree : Chart → Course → (ℕ → List Event) → List ℕ → Type 0
 AllAreFree chart course events [] = ⊤
 AllAreFree chart course events (line ∷ lines) = (ForgetsWhatWasSaid (chart.crossing line) nothing_sent (events line) → IsFreeOver chart course line) × AllAreFree chart course events lines

@@ -46,8 +46,7 @@ use uu_store::laws::{
 /// So each job comes that was handed in without a key and whose number the sender gave (`told`). If
 /// the number was given to a key, the job that was handed in first under it comes (`told_under`).
 /// The two spools are those of a world of custody, so its law applies (`world`). If the receiver
-/// forgets only what the sender said, nothing hinders a waiting job except what would hinder any
-/// job (`free`).
+/// forgets only what the sender said, it refuses no waiting job as `Stale` or `Differs` (`free`).
 pub fn jobs_come_once_over_stops()
     ensures once { (crossing : Crossing) (a b : State) (events : List Event) (sent received : List Command)
         → IsWellFormed a → IsWellFormed b → link_of b crossing.from ≡ new_link crossing.from
@@ -216,8 +215,7 @@ pub fn bundles_go_around()
 {}
 
 /// So over any lines between sites with spools in files messages come once in bundles, as they do
-/// in [`messages_come_once_in_files`]. Nothing hinders a waiting job except what would hinder any
-/// job.
+/// in [`messages_come_once_in_files`]. No waiting job would be refused as `Stale` or `Differs`.
 pub fn messages_come_once_in_bundles<H: Sites>()
     ensures { (chart : Chart) (name : ℕ → List ℕ) (count : ℕ) (first : ℕ → State) (deeds : List (Deed ℕ)) (lines : List ℕ)
         → AreNamed chart name → AreAmong chart count first lines → GoAround chart name [] deeds → GoOn deeds

@@ -56,7 +56,7 @@ unchanged crossing world parcel new h queued = by_verdict (verdict world.receive
             by_remembered (inr (row, there, same)) =
                 both_ways _ (find_none (is_taken parcel.number) (kept_of crossing world).taken why.1) (some_passes (is_taken parcel.number) (kept_of crossing world).taken row there (eq-eqb row.number parcel.number (same ∙ queued.of.number)))
 
--- ---- nothing hinders a job that waits
+-- ---- a job that waits is free
 
 module _ (crossing : Crossing) (world : World) (job : Job) (new : NewJob) (h : Holds crossing world) (heard : world.is_heard ≡ true) (there : Contains world.sender.jobs job) (own : job.system ≡ crossing.to) where
   abbrev key : Key

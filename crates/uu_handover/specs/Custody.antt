@@ -198,7 +198,8 @@ pub record IsQueued (crossing : Crossing) (world : World) (parcel : Parcel) : Ty
 abbrev pub IsNotLost : Crossing → World → Job → Type 0
 IsNotLost crossing world job = IsAmong world.sender.jobs job ⊎ Contains world.killed job.number ⊎ IsQueued crossing world (parcel_of job)
 
--- nothing hinders this job except what would hinder any job
+-- This job is free: the receiver would take it, or refuse it only for its size, for a system or a
+-- sender that it doesn't know, or because no number is left.
 abbrev pub IsFree : Crossing → World → Job → NewJob → Type 0
 IsFree crossing world job new =
     let key = key_of crossing (parcel_of job) in

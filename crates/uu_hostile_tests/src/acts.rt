@@ -175,17 +175,6 @@ fn give_bundle<S: Alter>(
     answer_of(rt, alloc, spool.take_in(alloc, bundle))
 }
 
-fn ask_jobs<S: Alter>(
-    rt: &impl Abort,
-    alloc: Global,
-    spool: &mut Spool<S>,
-    refusing: Refusing,
-) -> Answered {
-    let filter = Filter::all();
-    refusing.begin(alloc);
-    answer_of(rt, alloc, spool.jobs(alloc, &filter))
-}
-
 fn ask_job<S: Alter>(
     rt: &impl Abort,
     alloc: Global,
@@ -199,74 +188,6 @@ fn ask_job<S: Alter>(
         Ok(None) => answer_of(rt, alloc, Ok("no job")),
         Err(fault) => answer_of::<()>(rt, alloc, Err(fault)),
     }
-}
-
-fn ask_systems<S: Alter>(
-    rt: &impl Abort,
-    alloc: Global,
-    spool: &mut Spool<S>,
-    refusing: Refusing,
-) -> Answered {
-    refusing.begin(alloc);
-    answer_of(rt, alloc, spool.systems(alloc))
-}
-
-fn ask_next<S: Alter>(
-    rt: &impl Abort,
-    alloc: Global,
-    spool: &mut Spool<S>,
-    refusing: Refusing,
-) -> Answered {
-    refusing.begin(alloc);
-    answer_of(rt, alloc, spool.next())
-}
-
-fn ask_due<S: Alter>(
-    rt: &impl Abort,
-    alloc: Global,
-    spool: &mut Spool<S>,
-    second: u64,
-    refusing: Refusing,
-) -> Answered {
-    let at = moment(rt, second);
-    refusing.begin(alloc);
-    answer_of(rt, alloc, spool.due(alloc, &at))
-}
-
-fn ask_entry<S: Alter>(
-    rt: &impl Abort,
-    alloc: Global,
-    spool: &mut Spool<S>,
-    host: &str,
-    refusing: Refusing,
-) -> Answered {
-    let host = site(rt, alloc, host);
-    refusing.begin(alloc);
-    answer_of(rt, alloc, spool.entry(alloc, &host))
-}
-
-fn ask_taken<S: Alter>(
-    rt: &impl Abort,
-    alloc: Global,
-    spool: &mut Spool<S>,
-    name: &str,
-    refusing: Refusing,
-) -> Answered {
-    let name = site(rt, alloc, name);
-    refusing.begin(alloc);
-    answer_of(rt, alloc, spool.taken(alloc, &name))
-}
-
-fn ask_refusal<S: Alter>(
-    rt: &impl Abort,
-    alloc: Global,
-    spool: &mut Spool<S>,
-    order: Order,
-    refusing: Refusing,
-) -> Answered {
-    let command = command(rt, alloc, order);
-    refusing.begin(alloc);
-    answer_of(rt, alloc, spool.refusal(alloc, &command))
 }
 
 fn serve_words<S: Alter>(
@@ -399,7 +320,7 @@ pub(crate) fn perform<S: Alter>(
     }
 }
 
-/// Asks a question while requests are refused.
+/// Asks a question while requests are refused. What it names is made before.
 fn ask<S: Alter>(
     rt: &impl Abort,
     alloc: Global,
@@ -408,14 +329,44 @@ fn ask<S: Alter>(
     refusing: Refusing,
 ) -> Answered {
     match question {
-        Act::Jobs => ask_jobs(rt, alloc, spool, refusing),
         Act::Job(number) => ask_job(rt, alloc, spool, number, refusing),
-        Act::Systems => ask_systems(rt, alloc, spool, refusing),
-        Act::Due(second) => ask_due(rt, alloc, spool, second, refusing),
-        Act::Entry(host) => ask_entry(rt, alloc, spool, host, refusing),
-        Act::Taken(name) => ask_taken(rt, alloc, spool, name, refusing),
-        Act::Refusal(order) => ask_refusal(rt, alloc, spool, order, refusing),
-        Act::Next => ask_next(rt, alloc, spool, refusing),
+        Act::Due(second) => {
+            let at = moment(rt, second);
+            refusing.begin(alloc);
+            answer_of(rt, alloc, spool.due(alloc, &at))
+        }
+        Act::Entry(host) => {
+            let host = site(rt, alloc, host);
+            refusing.begin(alloc);
+            answer_of(rt, alloc, spool.entry(alloc, &host))
+        }
+        Act::Taken(name) => {
+            let name = site(rt, alloc, name);
+            refusing.begin(alloc);
+            answer_of(rt, alloc, spool.taken(alloc, &name))
+        }
+        Act::Refusal(order) => {
+            let command = command(rt, alloc, order);
+            refusing.begin(alloc);
+            answer_of(rt, alloc, spool.refusal(alloc, &command))
+        }
+        _ => ask_all(rt, alloc, spool, question, refusing),
+    }
+}
+
+/// The same for a question that names nothing.
+fn ask_all<S: Alter>(
+    rt: &impl Abort,
+    alloc: Global,
+    spool: &mut Spool<S>,
+    question: Act,
+    refusing: Refusing,
+) -> Answered {
+    refusing.begin(alloc);
+    match question {
+        Act::Jobs => answer_of(rt, alloc, spool.jobs(alloc, &Filter::all())),
+        Act::Systems => answer_of(rt, alloc, spool.systems(alloc)),
+        Act::Next => answer_of(rt, alloc, spool.next()),
         _ => panic!(rt; "no question"),
     }
 }

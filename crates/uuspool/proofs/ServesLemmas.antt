@@ -10,9 +10,9 @@ use Rattle.uu_settings.specs.declared.settings.Settings.{Settings}
 use Rattle.uu_request.specs.Requests.{LineAsks}
 use Rattle.uu_request.specs.declared.request.Request.{Request}
 use Rattle.uu_store.specs.declared.spool.Spool.{Spool}
-use Rattle.uuspool.proofs.AskLemmas.{ends_as, words_ask}
+use Rattle.uuspool.proofs.AskLemmas.{ends_as, words_ask, words_faults}
 use Rattle.uuspool.proofs.ServedLemmas.{Appends_nothing, broken_as, printed_as}
-use Rattle.uuspool.specs.Served.{WordsAsk, EndsAs, IsFaultOf, IsMomentOf, IsServed, answered_text, second_of}
+use Rattle.uuspool.specs.Served.{WordsAsk, EndsAs, IsFaultOf, IsFaultOfLine, IsMomentOf, IsServed, answered_text, second_of}
 use Rattle.uuspool.specs.ServedLines.{ServedLine, Serves}
 use Rattle.uuspool.specs.declared.fault.Fault.{Fault}
 
@@ -76,3 +76,17 @@ line_serves settings line old new before after Still ends still told known wrote
       (λ kept. (kept.0, one_text before after line.output [] known wrote (subst (λ a. Appends before a []) (sym (still kept.1)) (Appends_nothing before)))) ends;
   told = told;
 }
+
+-- a line that ended so is one of the lines that are served, for all words that mean it at its moment
+pub words_serve : {S : Type 0} {g : Ghosts S} (settings : Settings) (line : CommandLine) (at : Moment) (input : List ℕ) (words : List (List ℕ)) (now : ℕ)
+    → MeansLine words line → IsMomentOf settings (second_of line now) at
+    → (old new : Spool S g) (before after : Option (List ℕ)) (Still : Type 0) (r : Result ℕ Fault)
+    → EndsAs r ((request : Request) × LineAsks settings at input line (Ok request) × IsServed settings request old new (λ output. Appends before after output) r)
+    ((new ≡ old) × Still)
+    → (Still → after ≡ before) → IfErr r (IsFaultOfLine settings line at input)
+    → (output : List ℕ) → IsSome before → Appends before after output
+    → Serves settings (record { words = words; now = now; input = input; output = output; result = r }) old new
+words_serve settings line at input words now means moment old new before after Still r ends still told output known wrote =
+    line_serves settings (record { words = words; now = now; input = input; output = output; result = r }) old new before after Still
+    (words_end settings line at input words now means moment old new (λ output. Appends before after output) ((new ≡ old) × Still) r ends) still
+    (words_faults settings line at input words now means moment r told) known wrote

@@ -129,13 +129,33 @@ pub fn serve_line<S: Alter, W: Write>(
         × IsServed settings.now request spool.old spool.new (λ output. Appends (W.contents out.old) (W.contents out.new) output) result)
         ((spool.new ≡ spool.old) × (out.new ≡ out.old)) }
     ensures fault { IfErr result (IsFaultOfLine settings.now line at input.items) }
+    // With a writer whose bytes are known, and for all words that mean the line at this moment, it
+    // is one of the lines that are one run.
+    ensures serves { (words : List (List ℕ)) (now : ℕ) (output : List ℕ) → MeansLine words line → IsMomentOf settings.now (second_of line now) at
+        → IsSome (W.contents out.old) → Appends (W.contents out.old) (W.contents out.new) output
+        → Serves settings.now (record { words = words; now = now; input = input.items; output = output; result = result }) spool.old spool.new }
 {
     match request_of(alloc, line, settings, at, input) {
-        Ok(Request::Commands(list)) => run(alloc, list, settings, spool, out),
-        Ok(Request::Question(question)) => ask(alloc, &question, settings, spool, out),
-        Ok(Request::Settling(settling)) => settle(alloc, &settling, settings, spool, out),
-        Ok(Request::Unpacking(unpacking)) => unpack(alloc, unpacking, settings, spool, out),
+        Ok(request) => serve_request(alloc, request, settings, spool, out),
         Err(fault) => Err(Fault::from(fault)),
+    }
+}
+
+// Gives a request to the spool, and prints the answer.
+fn serve_request<S: Alter, W: Write>(
+    alloc: Global,
+    request: Request,
+    settings: &Settings,
+    spool: &mut Spool<S>,
+    out: &mut W,
+) -> Result<u8, Fault>
+    ensures { IsServed settings.now request spool.old spool.new (λ output. Appends (W.contents out.old) (W.contents out.new) output) result }
+{
+    match request {
+        Request::Commands(list) => run(alloc, list, settings, spool, out),
+        Request::Question(question) => ask(alloc, &question, settings, spool, out),
+        Request::Settling(settling) => settle(alloc, &settling, settings, spool, out),
+        Request::Unpacking(unpacking) => unpack(alloc, unpacking, settings, spool, out),
     }
 }
 

@@ -1,4 +1,4 @@
-use Rattle.std.proofs.Common.{◌≡◌, Err, ap, map, refl, subst, sym}
+use Rattle.std.proofs.Common.{◌≡◌, Err, map, refl, subst, sym}
 use Rattle.std.proofs.lemmas.Result.{err_from_is_err_and}
 use Rattle.std.specs.Io.KnownBytes.{Appends}
 use Rattle.std.specs.String.{string_bytes}
@@ -25,17 +25,7 @@ returns-clause-fault g c =
 
 pub returns-clause-serves : goal.returns-clause-serves
 returns-clause-serves g c = λ output known wrote.
-    let words = map string_bytes c.args.words.now in
-    let before = g.W.Write.contents c.args.out.now in
-    let after = g.W.Write.contents c.serve_line.new.out in
-    line_serves c.args.settings.now (record { words = words; now = c.args.now; input = c.args.input.items; output = output; result = c.serve_line.result })
-    c.args.spool.now c.serve_line.new.spool before after (c.serve_line.new.out ≡ c.args.out.now)
-    (words_end c.args.settings.now c.in_ok-line.line c.in_ok-line.at c.args.input.items words c.args.now c.in_ok-line.ensures.line.0 c.in_ok-line.ensures.line.1
-    c.args.spool.now c.serve_line.new.spool (λ output. Appends before after output)
-    ((c.serve_line.new.spool ≡ c.args.spool.now) × (c.serve_line.new.out ≡ c.args.out.now)) c.serve_line.result c.serve_line.ensures.ends)
-    (ap g.W.Write.contents)
-    (words_faults c.args.settings.now c.in_ok-line.line c.in_ok-line.at c.args.input.items words c.args.now c.in_ok-line.ensures.line.0 c.in_ok-line.ensures.line.1 c.serve_line.result c.serve_line.ensures.fault)
-    known wrote
+    c.serve_line.ensures.serves (map string_bytes c.args.words.now) c.args.now output c.in_ok-line.ensures.line.0 c.in_ok-line.ensures.line.1 known wrote
 
 pub returns-in_err-line-clause-ends : goal.returns-in_err-line-clause-ends
 returns-in_err-line-clause-ends g c =
