@@ -443,7 +443,7 @@ fill_reserve() {
 # Adds a line for each part of an answer in several lines. The line has the key of a neighbour's job
 # as `--once` writes it, so that the job can be followed over sites.
 note_each() {
-    ended=$how noted=''
+    ended=$how noted='' of_job=''
     while read -r first second third fourth; do
         case $answered$subcommand:$second:$third in
         0load:done:) note_part "$first" - 'done' ;;
@@ -452,8 +452,9 @@ note_each() {
             for it in $second $third $fourth; do note_part "$system" "$it" 'done'; done
             ;;
         [01]unpack:job:*) note_part "$system" "$third" 'done' " --once=$system!$first" ;;
-        [01]unpack:refused:*) note_part "$system" - "$third" " --once=$system!$first" ;;
+        [01]unpack:refused:*) note_part "$system" - "$third" "${of_job:+ --once=$system!$first}" ;;
         esac
+        of_job=yes
     done <<END
 $text
 END
