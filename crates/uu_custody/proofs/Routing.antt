@@ -63,7 +63,7 @@ pub never_twice : (chart : Chart) (course : Course) (lines : List ℕ) (job one 
 never_twice chart course [] job one other once first second = sym first ∙ second
 never_twice chart course (line ∷ lines) job one other once (handed, there, is, first) (again, here, same, second) =
     let it : handed ≡ again = pairs_one (λ (a b : Handed). ¬ (a.number ≡ b.number)) (λ a b. a.number ≡ b.number) (λ a b far near. far near) (λ a b far near. far (sym near))
-        (handed_over chart course line) once.0.never_twice handed again there here (is ∙ sym same) in
+    (handed_over chart course line) once.0.never_twice handed again there here (is ∙ sym same) in
     never_twice chart course lines handed.job one other once.1 first (subst (λ (h : Handed). CameTo chart course lines h.job other) (sym it) second)
 
 pub apart : (chart : Chart) (course : Course) (lines : List ℕ) (one other last same : Job) → ComeOnceOverAll chart course lines → CameTo chart course lines one last → CameTo chart course lines other same → last.number ≡ same.number → one.number ≡ other.number
