@@ -27,7 +27,7 @@ form_of() {
     no_sqlite) form='%s is not an SQLite database' ;;
     foreign) form='%s is not a spool, or another program changed it' ;;
     newer) form='%s was made by a later version than %s' ;;
-    lost) form='%s was removed or replaced before the answer, so nothing is kept' ;;
+    lost) form='%s was removed or replaced before the answer, so the change may be lost' ;;
     log_alone) form='%s is there without its database' ;;
     unknown) form='%s: no cause was found, so it may be damaged' ;;
     not_toml) form='%s: line %s is not TOML: %s' ;;
