@@ -177,7 +177,7 @@ module _ (monday tuesday : Moment) where
     record { number = 1; job = job_of 1 (forwarded monday) },
     (0, omega arith, refl),
     record { number = refl; new = forwarded monday; made = refl; job_is = refl },
-    inr (inr (inl ((λ same. cc), inl (record { later = job_of 1 (forwarded monday); there = (0, omega arith, refl); same = unchanged }))))
+    inr (inr (inl ((λ same. cc), inl (record { later = job_of 1 (forwarded monday); there = (0, omega arith, refl); same = unchanged })))),
   )))
     where
       unchanged : IsSameJob (job_of 1 (forwarded monday)) (job_of 1 (forwarded monday))
