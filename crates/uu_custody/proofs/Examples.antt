@@ -1,6 +1,6 @@
 -- A letter that crosses, as computed. Its receiver is stopped with the letter in hand, the sender
 -- asks again, and the sender is stopped too.
-use Rattle.std.proofs.Common.{◌≡◌, inl, inr, ℕ, List, [], ◌∷◌, length, codes, Some, None, Contains, refl, arith}
+use Rattle.std.proofs.Common.{◌≡◌, inl, inr, ℕ, ◌+◌, ◌==◌, cond, List, [], ◌∷◌, length, codes, Some, None, Contains, refl, arith}
 use Rattle.std.proofs.lemmas.List.Elements.{All-nil, All-cons}
 use Rattle.uu_times.specs.declared.moment.Moment.{Moment}
 use Rattle.uu_times.specs.System.{System}
@@ -11,13 +11,16 @@ use Rattle.uu_core.specs.declared.job.Kind.TheVariants.{Execute}
 use Rattle.uu_core.specs.declared.job.NewJob.{NewJob}
 use Rattle.uu_core.specs.State.{State, empty, link_of, new_link, same_text}
 use Rattle.uu_core.specs.After.{job_of}
+use Rattle.uu_core.specs.Laws.{IsSameJob}
 use Rattle.uu_core.specs.Run.{state_after}
 use Rattle.uu_handover.specs.Custody.{Crossing, Parcel, parcel_of, key_of}
+use Rattle.uu_handover.specs.Network.{Chart}
 use Rattle.uu_schema.specs.declared.fault.StoreFault.TheVariants.{Store}
 use Rattle.uu_schema.specs.declared.fault.StoreKind.TheVariants.{Disk}
 use Rattle.uu_store.specs.Exchanges.{given, Passes}
 use Rattle.uu_custody.specs.Events.{Event, sender, receiver, waits, no_more, answered, stopped, noticed, Wire, Noted, IsTrueOf, sessions_at, exchanges_at, PassesTruly, MayBeGiven, KeepsToWire, nothing_sent, ForgetsWhatWasSaid}
 use Rattle.uu_custody.specs.Handovers.{handed_in}
+use Rattle.uu_custody.specs.Routes.{Course, IsOnItsWay}
 
 module _ (monday tuesday : Moment) where
   abbrev system : List ℕ → System
@@ -154,3 +157,28 @@ module _ (monday tuesday : Moment) where
 
   it_came_twice : (state_after duke (Queue (forwarded monday) ∷ Queue (forwarded monday) ∷ [])).jobs ≡ job_of 1 (forwarded monday) ∷ job_of 2 (forwarded monday) ∷ []
   it_came_twice = refl
+
+  -- ---- a letter over two lines
+
+  -- The first goes to duke, and the second from there to decvax.
+  abbrev lines : Chart
+  lines = record {
+    begins = λ line. line;
+    ends = λ line. line + 1;
+    crossing = λ line. cond (line == 0) crossing (record { from = codes "duke"; to = codes "decvax"; mark = crossing.mark; makes = crossing.makes });
+  }
+
+  abbrev course : Course
+  course = record { first = λ site. cond (site == 0) mysite duke; counted = λ site. cond (site == 0) (report ∷ []) (handing monday ∷ []) }
+
+  -- duke queued the letter for unc, so it stays there
+  it_stays : IsOnItsWay lines course 0 (0 ∷ 1 ∷ []) (job_of 1 letter)
+  it_stays = inr (inr (inr (
+    record { number = 1; job = job_of 1 (forwarded monday) },
+    (0, omega arith, refl),
+    record { number = refl; new = forwarded monday; made = refl; job_is = refl },
+    inr (inr (inl ((λ same. cc), inl (record { later = job_of 1 (forwarded monday); there = (0, omega arith, refl); same = unchanged })))),
+  )))
+    where
+      unchanged : IsSameJob (job_of 1 (forwarded monday)) (job_of 1 (forwarded monday))
+      unchanged = record { number = refl; system = refl; user = refl; kind = refl; bytes = refl }

@@ -1,13 +1,16 @@
 -- A message goes over several sites.
-use Rattle.std.proofs.Common.{◌≡◌, inl, inr, ℕ, List, [], ◌∷◌, ◌++◌, Contains, refl, sym, ap, subst, ◌∙◌}
+use Rattle.std.proofs.Common.{◌≡◌, inl, inr, ℕ, Bool, true, false, List, [], ◌∷◌, ◌++◌, Contains, refl, sym, ap, subst, ◌∙◌}
 use Rattle.std.proofs.lemmas.List.Elements.{Contains-append_cases}
+use Rattle.std.specs.Str.{bytes_eq}
+use Rattle.std.proofs.lemmas.Bool.{false≢true}
+use Rattle.std.proofs.lemmas.Slice.Eq.{bytes_eq-Decides}
 use Rattle.uu_names.proofs.Basics.{none_in, pairs_one, one_of_number}
 use Rattle.uu_core.specs.declared.command.Command.{Command}
 use Rattle.uu_core.specs.State.{State, Job}
 use Rattle.uu_core.specs.After.{after}
 use Rattle.uu_core.specs.Run.{state_after}
 use Rattle.uu_handover.specs.Custody.{Crossing, Handed, IsHandedFor, parcel_of}
-use Rattle.uu_handover.specs.Network.{Chart, IsRoute, GoesBy}
+use Rattle.uu_handover.specs.Network.{Chart, IsRoute}
 use Rattle.uu_custody.specs.Handovers.{handed_of, handed_in, Waited, HasCome, IsInCustody}
 use Rattle.uu_custody.specs.Routes.{Course, ComeOnceOverAll, handed_over, IsOnItsWay, CameTo}
 use Rattle.uu_custody.proofs.Coming.{there_then}
@@ -28,34 +31,40 @@ was_there crossing s (command ∷ commands) handed inside = elim (Contains-appen
   | inr later ↦ (let it = was_there crossing (after s command).0 commands handed later in record { before = command ∷ it.before; behind = it.behind; commands_are = ap (λ l. command ∷ l) it.commands_are; there = it.there })
 ]
 
--- it goes by the rest of the route
-goes_on : (chart : Chart) (line : ℕ) (lines : List ℕ) (job : Job) (handed : Handed) → GoesBy chart (line ∷ lines) job → IsHandedFor (chart.crossing line) (parcel_of job) handed → GoesBy chart lines handed.job
-goes_on chart line lines job handed goes of = subst (GoesBy chart lines) (sym of.job_is) (goes.1 handed.job.number of.new of.made)
-
 over_one : (chart : Chart) (course : Course) (line : ℕ) (lines : List ℕ) (job : Job)
     → IsInCustody (chart.crossing line) (course.first (chart.begins line)) (course.counted (chart.begins line)) (course.first (chart.ends line)) (course.counted (chart.ends line)) job
     → ((come : HasCome (chart.crossing line) (course.first (chart.ends line)) (course.counted (chart.ends line)) job) → IsOnItsWay chart course (chart.ends line) lines come.handed.job)
     → IsOnItsWay chart course (chart.begins line) (line ∷ lines) job
 over_one chart course line lines job (inl waits) on = inl waits
 over_one chart course line lines job (inr (inl killed)) on = inr (inl killed)
-over_one chart course line lines job (inr (inr come)) on = inr (inr (come.handed, come.there, come.of, on come))
+over_one chart course line lines job (inr (inr come)) on = inr (inr (inr (come.handed, come.there, come.of, on come)))
 
 -- what becomes of it over the first line
 first_line : (chart : Chart) (course : Course) (line site : ℕ) (lines : List ℕ) (job : Job) → IsRoute chart site (line ∷ lines) → ComeOnceOverAll chart course (line ∷ lines) → Waited (chart.crossing line) (course.first site) (course.counted site) job
     → IsInCustody (chart.crossing line) (course.first (chart.begins line)) (course.counted (chart.begins line)) (course.first (chart.ends line)) (course.counted (chart.ends line)) job
 first_line chart course line site lines job route once waited = once.0.never_lost job (subst (λ n. Waited (chart.crossing line) (course.first n) (course.counted n) job) (sym route.0) waited)
 
-pub on_its_way : (chart : Chart) (course : Course) (lines : List ℕ) (line site : ℕ) (job : Job) → IsRoute chart site (line ∷ lines) → ComeOnceOverAll chart course (line ∷ lines) → GoesBy chart (line ∷ lines) job
+-- what was queued here for the next line goes on, and what was queued for another system stays
+goes_or_stays : (chart : Chart) (course : Course) (lines : List ℕ) (line next : ℕ) (job : Job) (come : HasCome (chart.crossing line) (course.first (chart.ends line)) (course.counted (chart.ends line)) job)
+    → (Waited (chart.crossing next) (course.first (chart.ends line)) (course.counted (chart.ends line)) come.handed.job → IsOnItsWay chart course (chart.ends line) (next ∷ lines) come.handed.job)
+    → IsOnItsWay chart course (chart.ends line) (next ∷ lines) come.handed.job
+goes_or_stays chart course lines line next job come goes = by (bytes_eq come.handed.job.system (chart.crossing next).to) refl
+  where
+    by : (same : Bool) → bytes_eq come.handed.job.system (chart.crossing next).to ≡ same → IsOnItsWay chart course (chart.ends line) (next ∷ lines) come.handed.job
+    by true is =
+        let it = was_there (chart.crossing line) (course.first (chart.ends line)) (course.counted (chart.ends line)) come.handed come.there in
+        let same = (bytes_eq-Decides come.handed.job.system (chart.crossing next).to).0 is in
+        goes (record { before = it.before; behind = it.behind; commands_are = it.commands_are; there = it.there; system = same })
+    by false is = inr (inr (inl (λ same. false≢true (sym is ∙ (bytes_eq-Decides come.handed.job.system (chart.crossing next).to).1 same), come.kept)))
+
+pub on_its_way : (chart : Chart) (course : Course) (lines : List ℕ) (line site : ℕ) (job : Job) → IsRoute chart site (line ∷ lines) → ComeOnceOverAll chart course (line ∷ lines)
     → Waited (chart.crossing line) (course.first site) (course.counted site) job → IsOnItsWay chart course site (line ∷ lines) job
-on_its_way chart course [] line site job route once goes waited =
+on_its_way chart course [] line site job route once waited =
     subst (λ n. IsOnItsWay chart course n (line ∷ []) job) route.0 (over_one chart course line [] job (first_line chart course line site [] job route once waited) (λ come. come.kept))
-on_its_way chart course (next ∷ more) line site job route once goes waited =
+on_its_way chart course (next ∷ more) line site job route once waited =
     subst (λ n. IsOnItsWay chart course n (line ∷ next ∷ more) job) route.0
     (over_one chart course line (next ∷ more) job (first_line chart course line site (next ∷ more) job route once waited)
-    (λ come.
-    let it = was_there (chart.crossing line) (course.first (chart.ends line)) (course.counted (chart.ends line)) come.handed come.there in
-    let on = goes_on chart line (next ∷ more) job come.handed goes come.of in
-    on_its_way chart course more next (chart.ends line) come.handed.job route.1 once.1 on (record { before = it.before; behind = it.behind; commands_are = it.commands_are; there = it.there; system = on.0 })))
+    (λ come. goes_or_stays chart course more line next job come (λ on. on_its_way chart course more next (chart.ends line) come.handed.job route.1 once.1 on)))
 
 -- ---- at most once
 

@@ -1,5 +1,5 @@
 -- A message that goes over several sites, from each to the next by the custody of two.
-use Rattle.std.specs.Prelude.{◌≡◌, ◌⊎◌, ⊤, ℕ, List, [], ◌∷◌, Contains}
+use Rattle.std.specs.Prelude.{◌≡◌, ◌≢◌, ◌⊎◌, ⊤, ℕ, List, [], ◌∷◌, Contains}
 use Rattle.uu_core.specs.declared.command.Command.{Command}
 use Rattle.uu_core.specs.State.{State, Job}
 use Rattle.uu_core.specs.Run.{state_after}
@@ -37,11 +37,13 @@ handed_over chart course line = handed_in (chart.crossing line) (course.first (c
 
 -- Where a message is on its way over these lines: it waits at the site before the first of them, or
 -- was killed there. Or a job was made of it at the end of that line, and that job is on its way
--- over the others. After the last line it is there, or was removed.
+-- over the others. If no line is left, or if the site queued it for another system than that to
+-- which the next line goes, it is there, or was removed.
 abbrev pub IsOnItsWay : Chart → Course → ℕ → List ℕ → Job → Type 0
 IsOnItsWay chart course site [] job = IsKeptOrGone (course.first site) (course.counted site) job
 IsOnItsWay chart course site (line ∷ lines) job =
     IsAmong (last_of course site).jobs job ⊎ WasKilled (course.first site) (course.counted site) job.number
+    ⊎ ((job.system ≢ (chart.crossing line).to) × IsKeptOrGone (course.first site) (course.counted site) job)
     ⊎ ((handed : Handed) × Contains (handed_over chart course line) handed × IsHandedFor (chart.crossing line) (parcel_of job) handed × IsOnItsWay chart course (chart.ends line) lines handed.job)
 
 -- over these lines the job came to this one: each end queued a job for the number that it had before

@@ -11,7 +11,7 @@ ghost use Rattle.uu_core.specs.declared.command.Command.{Command};
 ghost use Rattle.uu_core.specs.State.{State, Job, IsWellFormed, link_of, new_link};
 ghost use Rattle.uu_handover.specs.Bundles.{Bundle};
 ghost use Rattle.uu_handover.specs.Custody.{Crossing};
-ghost use Rattle.uu_handover.specs.Network.{Chart, IsRoute, GoesBy};
+ghost use Rattle.uu_handover.specs.Network.{Chart, IsRoute};
 ghost use Rattle.uu_custody.specs.Events.{Event, Side, is_at, Notice, IsTrueOf, sender, receiver, sessions_at, exchanges_at, PassesTruly, KeepsToWire, nothing_sent, ForgetsWhatWasSaid};
 ghost use Rattle.uu_custody.specs.Handovers.{AreOfWorld, ComeOnce, NothingIsInTheWay, ToldAreInCustody, ToldUnderKeysAreInCustody, Waited};
 ghost use Rattle.uu_custody.specs.Sites.{AllHandOver, AllComeOnce};
@@ -171,11 +171,12 @@ pub fn what_a_spool_shows_is_true<D: Disk>()
 
 /// A message over several sites, between which jobs come once over each line. The spools of the
 /// sites are stopped at any point. The message waits at one of them, or was killed there, or has
-/// come to the last, and is there or was removed (`on_its_way`). There it is at most once
-/// (`never_twice`), and is made from one message only (`apart`).
+/// come to the last, or to one that queued it for another system than the next of the route. There
+/// it is, or was removed (`on_its_way`). At the last it is at most once (`never_twice`), and is made
+/// from one message only (`apart`).
 pub fn messages_come_once_over_sites()
     ensures on_its_way { (chart : Chart) (course : Course) (site line : ℕ) (lines : List ℕ) (job : Job) → IsRoute chart site (line ∷ lines)
-        → ComeOnceOverAll chart course (line ∷ lines) → GoesBy chart (line ∷ lines) job → Waited (chart.crossing line) (course.first site) (course.counted site) job
+        → ComeOnceOverAll chart course (line ∷ lines) → Waited (chart.crossing line) (course.first site) (course.counted site) job
         → IsOnItsWay chart course site (line ∷ lines) job }
     ensures never_twice { (chart : Chart) (course : Course) (lines : List ℕ) (job one other : Job) → ComeOnceOverAll chart course lines
         → CameTo chart course lines job one → CameTo chart course lines job other → one ≡ other }
