@@ -68,7 +68,10 @@ say() {
     form_of "$row"
     case $row in skipped | unknown_key | unlogged) row=warning ;; *) row=cause ;; esac
     # shellcheck disable=SC2059 # the table's forms
-    causes=$causes$(printf "$me: $row: $form" "$@")$newline
+    told=$(printf "$me: $row: $form" "$@")
+    # (the name of a file may have a line feed)
+    case $told in *"$newline"*) told=$(printf %s "$told" | tr '\n' '?') ;; esac
+    causes=$causes$told$newline
 }
 
 # ---- finding causes
@@ -523,6 +526,7 @@ help_of_init() {
 init() {
     traits=asks count=0
     [ "$line" = ' init' ] || fail 2 'init takes no words'
+    [ "$odd" != config ] || fail 2 '-c takes one file'
     [ -d "$folder" ] || fail 5 'cannot write' say missing "$folder"
     [ -d "$desk" ] || make_desk
     own_folder
