@@ -19,6 +19,7 @@ form_of() {
     folder) form='%s belongs to %s, and this is %s' ;;
     mode) form='%s has mode %s' ;;
     readonly) form='%s: the file system is read-only' ;;
+    link) form='%s is a symbolic link: put the file itself there, or name it in the settings' ;;
     kind) form='%s is not a regular file' ;;
     kind_folder) form='%s is not a folder' ;;
     busy) form='%s is in use by process %s (%s)' ;;
@@ -226,7 +227,9 @@ explain_spool() {
     *newer*) say newer "$file" "$("$program" --version)" && return ;;
     esac
     wal=$file-wal
-    if [ -d "$file" ]; then
+    if [ -L "$file" ]; then
+        say link "$file"
+    elif [ -d "$file" ]; then
         say kind "$file"
     elif cannot "$file"; then
         :
@@ -511,6 +514,7 @@ is_log_of_jobs() {
 }
 
 refuse_init() {
+    [ ! -L "$file" ] || fail 3 'spool: store'
     status=1 text="refused SpoolThere$newline"
     finish
 }
@@ -534,7 +538,7 @@ init() {
     # Another `init` may be making it now.
     take_turn
     if ! is_no_spool; then
-        if [ ! -f "$file" ] || [ -s "$file-word" ]; then refuse_init; fi
+        if [ ! -f "$file" ] || [ -L "$file" ] || [ -s "$file-word" ]; then refuse_init; fi
         name_spool
         traits='' status=0 text="done$newline"
         finish
@@ -563,6 +567,7 @@ batch() {
     if ! flock -n 3; then
         [ ! -s "$desk/now" ] || fail 2 'a batch is what the desk keeps open: end the desk first (systemctl stop uuspool-desk)'
         flock -w "$patience" 3 || fail 3 "no turn within $patience seconds" who_has "$file"
+        is_there
     fi
     ended=yes
     exec "$program" "$@"

@@ -1,5 +1,6 @@
 # shellcheck shell=sh disable=SC2034 # its users read the names
-# What commands share: finding the site, its log, who holds a lock, and the size of a piece.
+# What commands share: finding the site and its spool, its log, who holds a lock, and the size of a
+# piece.
 
 # A file that is too large for a job goes in pieces of so many bytes. The last piece may be shorter.
 piece_size=1000000
@@ -80,6 +81,12 @@ read_offset() {
     esac
     case $offset in '' | *[!0-9]* | 0?* | ?????*) return ;; esac
     zone="<site>$sign$((offset / 60)):$((offset % 60))"
+}
+
+# Whether the spool FILE is there: a file that isn't empty, and its log. A link is no spool, because
+# the program would open the file to which it leads, and make a log beside that.
+has_spool() {
+    [ ! -L "$1" ] && [ -f "$1" ] && [ -s "$1" ] && [ -e "$1-wal" ]
 }
 
 # Appends a line to the log of the site, by its clock: log_line SYSTEM USER JOB HOW WORDS.., with
