@@ -35,6 +35,7 @@ form_of() {
     no_key) form='%s has no key %s' ;;
     bad_key) form='%s: line %s is not valid: %s' ;;
     odd_spool) form='%s: line %s: spool has to be a text on one line, without escapes' ;;
+    unread) form='%s: only the program can read the key spool: write spool = and its path in quotes on one line' ;;
     BadTime) form='line %s: %s: expected days with hours, Never or a timetable' ;;
     UnknownTable) form='line %s: %s: no line above defines this timetable' ;;
     BadNumber) form='line %s: %s: expected a number within its limits' ;;
@@ -274,7 +275,7 @@ say_line() {
         case $1:$bare in
         *: | *:'#'* | not:'['*']'*) ;;
         not:*) is_toml "$bare" || { say not_toml "$settings" "$at" "$bare" && return; } ;;
-        *:"$1="* | *:"$1 "* | *:"$1	"*) say bad_key "$settings" "$at" "$bare" && return ;;
+        *:"$1="* | *:"$1 "* | *:"$1	"* | *:\""$1"\"* | *:\'"$1"\'*) say bad_key "$settings" "$at" "$bare" && return ;;
         esac
     done <"$settings"
     say error "$settings" "$fault"
@@ -497,13 +498,33 @@ is_no_spool() {
     [ ! -L "$file" ] && [ ! -s "$file" ] && { [ ! -e "$file" ] || [ -f "$file" ]; }
 }
 
-# The settings don't name the spool. The program says what is wrong with them, or with the words.
+# Ends if the program refuses the words, as it does.
+check_words() {
+    # shellcheck disable=SC2086 # words without blanks
+    run_program "$program" -c /dev/null $words </dev/null
+    case $status:$message in
+    2:'uuspool: settings: '*) return ;;
+    2:*) run_program "$program" "$@" </dev/null ;;
+    esac
+    finish
+}
+
+# The settings don't name the spool. The program says what is wrong with the words, or else with the
+# settings. If it can read these, it would open a spool that this command doesn't know. So each of
+# its runs here has words, settings or a time with which it ends before that.
 ask_unsettled() {
-    count=0
-    list=''
-    [ -z "$odd_spool" ] || ! is_toml "$(sed -n "${odd_spool}p" "$settings")" || fail 2 'settings: spool bad' say odd_spool "$settings" "$odd_spool"
-    run_program "$program" "$@" </dev/null
-    traits=asks folder=$site desk=$site/desk
+    count=0 traits=asks folder=$site desk=$site/desk
+    case $subcommand:$words in
+    init:*) check_init ;;
+    *:batch) ;;
+    *) check_words "$@" ;;
+    esac
+    if [ -e "$settings" ] && [ ! -f "$settings" ]; then fail 5 'cannot read' say kind "$settings"; fi
+    run_program "$program" -c "$settings" --at "$past_time" name </dev/null
+    case $status:$message:$odd_spool in
+    2:*': time: '*:) fail 2 'settings: spool bad' say unread "$settings" ;;
+    2:*': time: '*) fail 2 'settings: spool bad' say odd_spool "$settings" "$odd_spool" ;;
+    esac
     finish
 }
 
@@ -526,11 +547,15 @@ help_of_init() {
     end 5
 }
 
+check_init() {
+    [ "$line" = ' init' ] || fail 2 'init takes no words'
+    [ "$odd" != config ] || fail 2 '-c takes one file'
+}
+
 # Makes the spool, if nothing is there, or the word that a spool lacks.
 init() {
     traits=asks count=0
-    [ "$line" = ' init' ] || fail 2 'init takes no words'
-    [ "$odd" != config ] || fail 2 '-c takes one file'
+    check_init
     [ -d "$folder" ] || fail 5 'cannot write' say missing "$folder"
     [ -d "$desk" ] || make_desk
     own_folder
