@@ -356,7 +356,7 @@ make_room() {
     first=$message
     for _ in 1 2 3; do
         rewind || return 0
-        true >"$desk/reserve"
+        true >"$desk/reserve" && given=yes
         alone=''
         exec 3>&-
         if is_served; then ask_desk "$@"; else ask_alone "$@"; fi
@@ -364,7 +364,6 @@ make_room() {
     done
     # (then the first run may have done it)
     case $text in 'refused '*) status=3 text='' message=$first ;; esac
-    fill_reserve
 }
 
 # Lets the input be read from its start again. Fails if it isn't a file that can be opened again.
@@ -381,12 +380,12 @@ extend_log() {
     fallocate -n -o "$length" -l "$log_room" "$folder/log" || :
 } 2>/dev/null
 
-# Makes room for an input that is kept in a file.
+# Makes room for an input that is kept in a file. If there is none, the disk is full.
 room_for_input() {
-    if ! fallocate -n -l "$((2 * most_bytes))" "$1" 2>/dev/null; then
-        true >"$desk/reserve" && given=yes
-    fi
-}
+    fallocate -n -l "$((2 * most_bytes))" "$1" && return
+    true >"$desk/reserve" && given=yes
+    true >"$desk/full"
+} 2>/dev/null
 
 # The number of free pages of the database. It is on the newest first page in the log, if there is
 # one, because with a desk the database's own may be old. Frames of an earlier log have other salts.
@@ -403,6 +402,7 @@ free_pages() {
 prepare_room() {
     free=$(free_bytes)
     if [ "$free" -ge $((2 * reserve_size)) ]; then
+        fill_reserve
         rm -f -- "$desk/full"
         return
     fi
@@ -417,24 +417,34 @@ prepare_room() {
         pages=$(od -An -tu4 --endian=big -j36 -N4 -- "$file")
         [ $((pages * 4096)) -ge $((2 * count + 131072)) ] || pages=$(free_pages)
         if [ $((pages * 4096)) -lt $((2 * count + 131072)) ] || [ -z "$given" ]; then
-            exec 0</dev/null
-            [ -s "$desk/reserve" ] || fill_reserve
+            given=yes
             fail 3 'spool: store' say room "$folder"
         fi
     elif [ "$free" -ge "$ample" ]; then
         return
     fi
-    true >"$desk/reserve"
+    true >"$desk/reserve" && given=yes
 }
 
-# Fills the reserve to the size that it had, or less if there isn't so much room.
+# Fills the reserve again, once nobody needs the input any more. If it is kept in a file, which has
+# no name, its room is given back first.
+refill() {
+    exec 0</dev/null 6<&- 7>&- 8<&-
+    fill_reserve
+}
+
+# Fills the reserve to the size that it had, or less if there isn't so much room. If the disk isn't
+# full, it may get more.
 fill_reserve() {
     size=''
-    { [ ! -e "$desk/full" ] || read -r size <"$desk/reserve.size"; } 2>/dev/null
-    if [ -z "$size" ]; then
-        size=$(($(free_bytes) / 4))
-        [ "$size" -le "$reserve_size" ] || size=$reserve_size
-        { echo "$size" >"$desk/reserve.size"; } 2>/dev/null || return 0
+    { read -r size <"$desk/reserve.size"; } 2>/dev/null
+    if [ -z "$size" ] || [ ! -e "$desk/full" ]; then
+        quarter=$(($(free_bytes) / 4))
+        [ "$quarter" -le "$reserve_size" ] || quarter=$reserve_size
+        if [ "$quarter" -gt "${size:-0}" ]; then
+            size=$quarter
+            { echo "$size" >"$desk/reserve.size"; } 2>/dev/null || return 0
+        fi
     fi
     for eighths in 8 7 6 5 4 3 2 1; do
         length=$((size / 8 * eighths))
