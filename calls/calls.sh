@@ -52,6 +52,7 @@ enter_site() {
     cd -- "$folder" 2>/dev/null || fail "$not_set_up" "$folder, the folder of the spool that $settings names, is not there"
     # shellcheck disable=SC3067 # dash and bash have -O
     [ -O . ] || fail "$later" "$folder belongs to $(stat -c %U .): runuser -u $(stat -c %U .) -- ${0##*/} .."
+    [ ! -L "$file" ] || fail "$not_set_up" "the spool $file is a symbolic link: put the file itself there, or name it in $settings"
     [ -s "$file" ] || fail "$not_set_up" "the spool $file is missing or empty: a lost one comes from a backup, and uuspool init makes the first one"
     if [ "$settings" = "$site/uuspool.toml" ]; then export UUSPOOL_DIR="$site"; fi
     mkdir -p calls deliver refused || fail "$later" "cannot write below $folder"

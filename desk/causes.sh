@@ -19,6 +19,7 @@ form_of() {
     folder) form='%s belongs to %s, and this is %s' ;;
     mode) form='%s has mode %s' ;;
     readonly) form='%s: the file system is read-only' ;;
+    link) form='%s is a symbolic link: put the file itself there, or name it in the settings' ;;
     kind) form='%s is not a regular file' ;;
     kind_folder) form='%s is not a folder' ;;
     busy) form='%s is in use by process %s (%s)' ;;
@@ -34,6 +35,7 @@ form_of() {
     no_key) form='%s has no key %s' ;;
     bad_key) form='%s: line %s is not valid: %s' ;;
     odd_spool) form='%s: line %s: spool has to be a text on one line, without escapes' ;;
+    unread) form='%s: only the program can read the key spool: write spool = and its path in quotes on one line' ;;
     BadTime) form='line %s: %s: expected days with hours, Never or a timetable' ;;
     UnknownTable) form='line %s: %s: no line above defines this timetable' ;;
     BadNumber) form='line %s: %s: expected a number within its limits' ;;
@@ -68,7 +70,10 @@ say() {
     form_of "$row"
     case $row in skipped | unknown_key | unlogged) row=warning ;; *) row=cause ;; esac
     # shellcheck disable=SC2059 # the table's forms
-    causes=$causes$(printf "$me: $row: $form" "$@")$newline
+    told=$(printf "$me: $row: $form" "$@")
+    # (the name of a file may have a line feed)
+    case $told in *"$newline"*) told=$(printf %s "$told" | tr '\n' '?') ;; esac
+    causes=$causes$told$newline
 }
 
 # ---- finding causes
@@ -223,7 +228,9 @@ explain_spool() {
     *newer*) say newer "$file" "$("$program" --version)" && return ;;
     esac
     wal=$file-wal
-    if [ -d "$file" ]; then
+    if [ -L "$file" ]; then
+        say link "$file"
+    elif [ -d "$file" ]; then
         say kind "$file"
     elif cannot "$file"; then
         :
@@ -268,7 +275,7 @@ say_line() {
         case $1:$bare in
         *: | *:'#'* | not:'['*']'*) ;;
         not:*) is_toml "$bare" || { say not_toml "$settings" "$at" "$bare" && return; } ;;
-        *:"$1="* | *:"$1 "* | *:"$1	"*) say bad_key "$settings" "$at" "$bare" && return ;;
+        *:"$1="* | *:"$1 "* | *:"$1	"* | *:\""$1"\"* | *:\'"$1"\'*) say bad_key "$settings" "$at" "$bare" && return ;;
         esac
     done <"$settings"
     say error "$settings" "$fault"
@@ -349,7 +356,7 @@ make_room() {
     first=$message
     for _ in 1 2 3; do
         rewind || return 0
-        true >"$desk/reserve"
+        true >"$desk/reserve" && given=yes
         alone=''
         exec 3>&-
         if is_served; then ask_desk "$@"; else ask_alone "$@"; fi
@@ -357,7 +364,6 @@ make_room() {
     done
     # (then the first run may have done it)
     case $text in 'refused '*) status=3 text='' message=$first ;; esac
-    fill_reserve
 }
 
 # Lets the input be read from its start again. Fails if it isn't a file that can be opened again.
@@ -374,12 +380,12 @@ extend_log() {
     fallocate -n -o "$length" -l "$log_room" "$folder/log" || :
 } 2>/dev/null
 
-# Makes room for an input that is kept in a file.
+# Makes room for an input that is kept in a file. If there is none, the disk is full.
 room_for_input() {
-    if ! fallocate -n -l "$((2 * most_bytes))" "$1" 2>/dev/null; then
-        true >"$desk/reserve" && given=yes
-    fi
-}
+    fallocate -n -l "$((2 * most_bytes))" "$1" && return
+    true >"$desk/reserve" && given=yes
+    true >"$desk/full"
+} 2>/dev/null
 
 # The number of free pages of the database. It is on the newest first page in the log, if there is
 # one, because with a desk the database's own may be old. Frames of an earlier log have other salts.
@@ -396,6 +402,7 @@ free_pages() {
 prepare_room() {
     free=$(free_bytes)
     if [ "$free" -ge $((2 * reserve_size)) ]; then
+        fill_reserve
         rm -f -- "$desk/full"
         return
     fi
@@ -410,24 +417,34 @@ prepare_room() {
         pages=$(od -An -tu4 --endian=big -j36 -N4 -- "$file")
         [ $((pages * 4096)) -ge $((2 * count + 131072)) ] || pages=$(free_pages)
         if [ $((pages * 4096)) -lt $((2 * count + 131072)) ] || [ -z "$given" ]; then
-            exec 0</dev/null
-            [ -s "$desk/reserve" ] || fill_reserve
+            given=yes
             fail 3 'spool: store' say room "$folder"
         fi
     elif [ "$free" -ge "$ample" ]; then
         return
     fi
-    true >"$desk/reserve"
+    true >"$desk/reserve" && given=yes
 }
 
-# Fills the reserve to the size that it had, or less if there isn't so much room.
+# Fills the reserve again, once nobody needs the input any more. If it is kept in a file, which has
+# no name, its room is given back first.
+refill() {
+    exec 0</dev/null 6<&- 7>&- 8<&-
+    fill_reserve
+}
+
+# Fills the reserve to the size that it had, or less if there isn't so much room. If the disk isn't
+# full, it may get more.
 fill_reserve() {
     size=''
-    { [ ! -e "$desk/full" ] || read -r size <"$desk/reserve.size"; } 2>/dev/null
-    if [ -z "$size" ]; then
-        size=$(($(free_bytes) / 4))
-        [ "$size" -le "$reserve_size" ] || size=$reserve_size
-        { echo "$size" >"$desk/reserve.size"; } 2>/dev/null || return 0
+    { read -r size <"$desk/reserve.size"; } 2>/dev/null
+    if [ -z "$size" ] || [ ! -e "$desk/full" ]; then
+        quarter=$(($(free_bytes) / 4))
+        [ "$quarter" -le "$reserve_size" ] || quarter=$reserve_size
+        if [ "$quarter" -gt "${size:-0}" ]; then
+            size=$quarter
+            { echo "$size" >"$desk/reserve.size"; } 2>/dev/null || return 0
+        fi
     fi
     for eighths in 8 7 6 5 4 3 2 1; do
         length=$((size / 8 * eighths))
@@ -491,13 +508,33 @@ is_no_spool() {
     [ ! -L "$file" ] && [ ! -s "$file" ] && { [ ! -e "$file" ] || [ -f "$file" ]; }
 }
 
-# The settings don't name the spool. The program says what is wrong with them, or with the words.
+# Ends if the program refuses the words, as it does.
+check_words() {
+    # shellcheck disable=SC2086 # words without blanks
+    run_program "$program" -c /dev/null $words </dev/null
+    case $status:$message in
+    2:'uuspool: settings: '*) return ;;
+    2:*) run_program "$program" "$@" </dev/null ;;
+    esac
+    finish
+}
+
+# The settings don't name the spool. The program says what is wrong with the words, or else with the
+# settings. If it can read these, it would open a spool that this command doesn't know. So each of
+# its runs here has words, settings or a time with which it ends before that.
 ask_unsettled() {
-    count=0
-    list=''
-    [ -z "$odd_spool" ] || ! is_toml "$(sed -n "${odd_spool}p" "$settings")" || fail 2 'settings: spool bad' say odd_spool "$settings" "$odd_spool"
-    run_program "$program" "$@" </dev/null
-    traits=asks folder=$site desk=$site/desk
+    count=0 traits=asks folder=$site desk=$site/desk
+    case $subcommand:$words in
+    init:*) check_init ;;
+    *:batch) ;;
+    *) check_words "$@" ;;
+    esac
+    if [ -e "$settings" ] && [ ! -f "$settings" ]; then fail 5 'cannot read' say kind "$settings"; fi
+    run_program "$program" -c "$settings" --at "$past_time" name </dev/null
+    case $status:$message:$odd_spool in
+    2:*': time: '*:) fail 2 'settings: spool bad' say unread "$settings" ;;
+    2:*': time: '*) fail 2 'settings: spool bad' say odd_spool "$settings" "$odd_spool" ;;
+    esac
     finish
 }
 
@@ -508,6 +545,7 @@ is_log_of_jobs() {
 }
 
 refuse_init() {
+    [ ! -L "$file" ] || fail 3 'spool: store'
     status=1 text="refused SpoolThere$newline"
     finish
 }
@@ -519,10 +557,15 @@ help_of_init() {
     end 5
 }
 
+check_init() {
+    [ "$line" = ' init' ] || fail 2 'init takes no words'
+    [ "$odd" != config ] || fail 2 '-c takes one file'
+}
+
 # Makes the spool, if nothing is there, or the word that a spool lacks.
 init() {
     traits=asks count=0
-    [ "$line" = ' init' ] || fail 2 'init takes no words'
+    check_init
     [ -d "$folder" ] || fail 5 'cannot write' say missing "$folder"
     [ -d "$desk" ] || make_desk
     own_folder
@@ -530,7 +573,7 @@ init() {
     # Another `init` may be making it now.
     take_turn
     if ! is_no_spool; then
-        if [ ! -f "$file" ] || [ -s "$file-word" ]; then refuse_init; fi
+        if [ ! -f "$file" ] || [ -L "$file" ] || [ -s "$file-word" ]; then refuse_init; fi
         name_spool
         traits='' status=0 text="done$newline"
         finish
@@ -559,6 +602,7 @@ batch() {
     if ! flock -n 3; then
         [ ! -s "$desk/now" ] || fail 2 'a batch is what the desk keeps open: end the desk first (systemctl stop uuspool-desk)'
         flock -w "$patience" 3 || fail 3 "no turn within $patience seconds" who_has "$file"
+        is_there
     fi
     ended=yes
     exec "$program" "$@"

@@ -1,8 +1,13 @@
 # shellcheck shell=sh disable=SC2034 # its users read the names
-# What commands share: finding the site, its log, who holds a lock, and the size of a piece.
+# What commands share: finding the site and its spool, its log, who holds a lock, and the size of a
+# piece.
 
 # A file that is too large for a job goes in pieces of so many bytes. The last piece may be shorter.
 piece_size=1000000
+
+# A time beyond the last one. With it the program ends after it read the words and the settings, and
+# before it opens the spool.
+past_time=9999999999
 
 # Finds the site: find_site [FILE], where FILE is that of -c. It sets
 #   settings  the settings file
@@ -37,28 +42,30 @@ take_settings() {
 # Reads what the commands need. The program reads the settings itself, and judges them.
 read_settings() {
     at=0 table=''
-    while IFS=' 	' read -r key equals value || [ -n "$key" ]; do
+    while IFS= read -r text_line || [ -n "$text_line" ]; do
         at=$((at + 1))
-        case $key in
+        text_line=${text_line#"${text_line%%[! 	]*}"}
+        case $text_line in
         '' | '#'*) continue ;;
         '['*) table=yes ;;
-        esac
-        # (`key=value` without blanks around the sign)
-        case $key in *=*) value=${key#*=}${equals:+ $equals}${value:+ $value} key=${key%%=*} equals='=' ;; esac
-        case $equals in
-        '=') ;;
-        '='*) value=${equals#=}${value:+ $value} ;;
-        *) continue ;; # within a list
-        esac
-        case $table$key in
-        spool | '"spool"' | "'spool'") read_string && file=$string || odd_spool=$at ;;
-        zone) read_string && zone=$string ;;
-        offset) read_offset ;;
-        name | admins | '"name"' | "'name'") ;;
-        *) odd_keys="$odd_keys$at ${key}
-" ;;
+        *=*) read_key ;;
         esac
     done
+}
+
+# `KEY = VALUE`. Blanks around the sign and quotes around the key mean nothing.
+read_key() {
+    key=${text_line%%=*} value=${text_line#*=}
+    key=${key%"${key##*[! 	]}"} value=${value#"${value%%[! 	]*}"}
+    case $key in '"'*'"' | "'"*"'") key=${key#?} key=${key%?} ;; esac
+    case $table$key in
+    spool) read_string && file=$string || odd_spool=$at ;;
+    zone) read_string && zone=$string ;;
+    offset) read_offset ;;
+    name | admins) ;;
+    *) odd_keys="$odd_keys$at ${key}
+" ;;
+    esac
 }
 
 # A text of TOML on one line, without escapes.
@@ -73,13 +80,19 @@ read_string() {
 
 # Minutes ahead of UTC, as TZ has them, with the opposite sign.
 read_offset() {
-    offset=${value%%[#	 ]*} sign=-
+    offset=${value%%[#[:space:]]*} sign=-
     case $offset in
     -*) sign=+ offset=${offset#-} ;;
     +*) offset=${offset#+} ;;
     esac
     case $offset in '' | *[!0-9]* | 0?* | ?????*) return ;; esac
     zone="<site>$sign$((offset / 60)):$((offset % 60))"
+}
+
+# Whether the spool FILE is there: a file that isn't empty, and its log. A link is no spool, because
+# the program would open the file to which it leads, and make a log beside that.
+has_spool() {
+    [ ! -L "$1" ] && [ -f "$1" ] && [ -s "$1" ] && [ -e "$1-wal" ]
 }
 
 # Appends a line to the log of the site, by its clock: log_line SYSTEM USER JOB HOW WORDS.., with

@@ -76,6 +76,15 @@ def same(what, wanted, found):
         raise Wrong(f"{what}:\n  wanted {str(wanted)[:600]}\n  found  {str(found)[:600]}")
 
 
+def wait_for(what, look, limit=30):
+    """Waits until something is so. Wrong if it isn't after so many seconds."""
+    ends = time.monotonic() + limit
+    while not look():
+        if time.monotonic() > ends:
+            raise Wrong(f"{what}: not within {limit} seconds")
+        time.sleep(0.02)
+
+
 def finds_fault(check):
     """Whether a check finds an error: a test uses it to show that it can fail."""
     try:
