@@ -20,6 +20,8 @@ form_of() {
     mode) form='%s has mode %s' ;;
     readonly) form='%s: the file system is read-only' ;;
     link) form='%s is a symbolic link: put the file itself there, or name it in the settings' ;;
+    names) form='%s has a second name, a hard link: put a copy in its place' ;;
+    journal) form='%s was left by sqlite3: open the spool once with sqlite3' ;;
     kind) form='%s is not a regular file' ;;
     kind_folder) form='%s is not a folder' ;;
     busy) form='%s is in use by process %s (%s)' ;;
@@ -172,6 +174,11 @@ who_has() {
     fi
 }
 
+# Who has the turn at a desk, or the spool.
+who_has_turn() {
+    who_has "$desk/turn" || who_has "$file"
+}
+
 # Whether a process holds its lock by this descriptor, /proc/PID/fd/N.
 is_locked_by() {
     while read -r word _; do
@@ -236,7 +243,7 @@ explain_spool() {
         :
     elif [ ! -s "$file" ]; then
         say empty "$file"
-    elif cannot "$wal"; then
+    elif cannot "$wal" || is_named_twice; then
         :
     elif ! is_sqlite; then
         say no_sqlite "$file"
@@ -245,6 +252,8 @@ explain_spool() {
         say room "$folder"
     elif who_has "$file" apart; then
         :
+    elif has_journal; then
+        say journal "$file-journal"
     elif [ -e "$desk/full" ] && [ "$(free_bytes)" -lt $((2 * reserve_size)) ]; then
         # (there may be room again by now)
         say room "$folder"
@@ -252,6 +261,24 @@ explain_spool() {
         say unknown "$file"
     fi
 }
+
+# The program opens no file that has another name, and no log by a link.
+is_named_twice() {
+    if [ -L "$wal" ]; then
+        say link "$wal"
+    elif [ "$(stat -c %h -- "$file")" != 1 ]; then
+        say names "$file"
+    elif [ "$(stat -c %h -- "$wal")" != 1 ]; then
+        say names "$wal"
+    else
+        return 1
+    fi
+}
+
+# Whether sqlite3 left a change half made, which only sqlite3 can undo.
+has_journal() {
+    [ -n "$(head -c 1 -- "$file-journal" | tr -d '\0')" ]
+} 2>/dev/null
 
 is_sqlite() {
     [ "$(head -c 15 -- "$file")" = 'SQLite format 3' ]
@@ -326,10 +353,13 @@ explain_skipped() {
     # shellcheck disable=SC2086
     set -- $text
     while [ $# -ge 2 ]; do
-        if [ "$1" = skipped ]; then
+        # (`skipped done` is about a system of this name)
+        case $1:$2 in
+        skipped:[0-9]*)
             sys_line "$2"
             say skipped "$2" "${shown%%[ 	]*}"
-        fi
+            ;;
+        esac
         shift 2
     done
     warn_of_keys
@@ -382,7 +412,7 @@ extend_log() {
 
 # Makes room for an input that is kept in a file. If there is none, the disk is full.
 room_for_input() {
-    fallocate -n -l "$((2 * most_bytes))" "$1" && return
+    fallocate -n -l "$most_input" "$1" && return
     true >"$desk/reserve" && given=yes
     true >"$desk/full"
 } 2>/dev/null
@@ -574,6 +604,7 @@ init() {
     take_turn
     if ! is_no_spool; then
         if [ ! -f "$file" ] || [ -L "$file" ] || [ -s "$file-word" ]; then refuse_init; fi
+        is_sqlite || fail 3 'spool: store' say no_sqlite "$file"
         name_spool
         traits='' status=0 text="done$newline"
         finish
