@@ -447,7 +447,7 @@ prepare_room() {
         pages=$(od -An -tu4 --endian=big -j36 -N4 -- "$file")
         [ $((pages * 4096)) -ge $((2 * count + 131072)) ] || pages=$(free_pages)
         if [ $((pages * 4096)) -lt $((2 * count + 131072)) ] || [ -z "$given" ]; then
-            given=yes
+            refill
             fail 3 'spool: store' say room "$folder"
         fi
     elif [ "$free" -ge "$ample" ]; then
