@@ -447,7 +447,7 @@ prepare_room() {
         pages=$(od -An -tu4 --endian=big -j36 -N4 -- "$file")
         [ $((pages * 4096)) -ge $((2 * count + 131072)) ] || pages=$(free_pages)
         if [ $((pages * 4096)) -lt $((2 * count + 131072)) ] || [ -z "$given" ]; then
-            refill
+            give_back
             fail 3 'spool: store' say room "$folder"
         fi
     elif [ "$free" -ge "$ample" ]; then
@@ -458,9 +458,9 @@ prepare_room() {
 
 # Fills the reserve again, once nobody needs the input any more. If it is kept in a file, which has
 # no name, its room is given back first.
-refill() {
-    exec 0</dev/null 6<&- 7>&- 8<&-
-    fill_reserve
+give_back() {
+    [ -z "$held" ] || exec 0</dev/null 6<&- 7>&- 8<&-
+    [ -s "$desk/reserve" ] || fill_reserve
 }
 
 # Fills the reserve to the size that it had, or less if there isn't so much room. If the disk isn't

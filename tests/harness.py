@@ -4,6 +4,7 @@ comparisons. tests/README.md says how a test uses it."""
 import argparse
 import collections
 import contextlib
+import fcntl
 import os
 import re
 import shutil
@@ -11,6 +12,7 @@ import sqlite3
 import subprocess
 import sys
 import tempfile
+import termios
 import time
 from importlib.machinery import SourceFileLoader
 from importlib.util import module_from_spec, spec_from_loader
@@ -303,12 +305,29 @@ def install(prefix, program=None):
 
 
 def begun(desk, folder):
-    """Waits until a desk that was started serves a folder."""
-    ends = time.monotonic() + 30
-    while not os.path.exists(f"{folder}/desk/now"):
-        if desk.poll() is not None or time.monotonic() > ends:
+    """Waits until a desk that was started serves a folder. One that was killed leaves the number of
+    its batch, and a caller may empty it, so the batch has to be one of this desk."""
+
+    def serves():
+        if desk.poll() is not None:
             raise Wrong("the desk does not begin")
-        time.sleep(0.02)
+        with contextlib.suppress(OSError):
+            number = text_of(f"{folder}/desk/now").strip()
+            return bool(number) and os.readlink(f"{folder}/desk/{number}/file").startswith(f"/proc/{desk.pid}/")
+        return False
+
+    wait_for("the desk begins", serves)
+
+
+def has_asked(folder, size):
+    """Whether so many bytes of a request are in the FIFO of a desk's batch, which is stopped."""
+    number, held = text_of(f"{folder}/desk/now").strip(), bytearray(4)
+    fifo = os.open(f"{folder}/desk/{number}/in", os.O_RDONLY | os.O_NONBLOCK)
+    try:
+        fcntl.ioctl(fifo, termios.FIONREAD, held)
+    finally:
+        os.close(fifo)
+    return int.from_bytes(held, sys.byteorder) >= size
 
 
 def batch_of(desk):
@@ -321,6 +340,22 @@ def batch_of(desk):
                 if parent == desk.pid and b"batch" in file.read().split(b"\0"):
                     return int(name)
     return None
+
+
+def processes_of(prefix):
+    """The processes that run something below a prefix, each by its words."""
+    for name in filter(str.isdigit, os.listdir("/proc")):
+        with contextlib.suppress(OSError), open(f"/proc/{name}/cmdline", "rb") as file:
+            words = file.read().decode(errors="replace").split("\0")
+            if any(word.startswith(f"{prefix}/") for word in words):
+                yield " ".join(words)
+
+
+def expect_none_left(prefix):
+    """The processes of commands that were installed below a prefix end, each by itself."""
+    with contextlib.suppress(Wrong):
+        wait_for("the end of all processes", lambda: not any(processes_of(prefix)))
+    same("processes that are left", [], [*processes_of(prefix)])
 
 
 def loaded(path):
