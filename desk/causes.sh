@@ -73,8 +73,8 @@ say() {
     case $row in skipped | unknown_key | unlogged) row=warning ;; *) row=cause ;; esac
     # shellcheck disable=SC2059 # the table's forms
     told=$(printf "$me: $row: $form" "$@")
-    # (the name of a file may have a line feed)
-    case $told in *"$newline"*) told=$(printf %s "$told" | tr '\n' '?') ;; esac
+    # (an answer of several lines, or the name of a file, may have line feeds)
+    case $told in *"$newline"*) told=$(printf %s "$told" | tr '\n' ' ') ;; esac
     causes=$causes$told$newline
 }
 
@@ -226,6 +226,8 @@ explain_size() {
     esac
     [ -z "$causes" ] || return 0
     [ -n "$count" ] || count=$(stat -L -c %s /dev/fd/0)
+    # (a message counts with its first line, which the program adds)
+    [ "$count" -gt "$most_bytes" ] || count="more than $most_bytes"
     say bytes "$count" "$most_bytes"
 }
 
