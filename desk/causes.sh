@@ -522,6 +522,7 @@ note_part() {
 no_word() {
     [ -e "$file-word" ] || fail 5 'cannot read' say no_word "$file-word"
     [ -s "$file-word" ] || fail 5 'cannot read' say empty "$file-word"
+    [ ! -r "$file-word" ] || fail 5 'cannot read' say error "$file-word" 'it has not one word'
     fail 5 'cannot read' cannot "$file-word"
 }
 
