@@ -613,10 +613,11 @@ init() {
         finish
     fi
     if is_log_of_jobs; then fail 3 'spool: store' say log_alone "$file-wal"; fi
+    command exec 3>>"$desk/owner" || fail 5 'cannot write' cannot_make "$desk/owner"
+    flock -w 1 3 || fail 3 'no turn within a second' who_has "$desk/owner"
     name_spool
     exec </dev/null
-    run_program flock -F -w 1 -E 201 "$desk/owner" "$program" -c "$settings" status
-    [ "$status" != 201 ] || fail 3 'no turn within a second' who_has "$desk/owner"
+    run_program "$program" -c "$settings" status
     traits=''
     if [ "$status" = 0 ]; then
         text="done$newline"
