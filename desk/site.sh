@@ -53,11 +53,15 @@ read_settings() {
     done
 }
 
-# `KEY = VALUE`. Blanks around the sign and quotes around the key mean nothing.
+# `KEY = VALUE`. Blanks around the sign and quotes around the key mean nothing. What is no key is
+# within a list.
 read_key() {
     key=${text_line%%=*} value=${text_line#*=}
     key=${key%"${key##*[! 	]}"} value=${value#"${value%%[! 	]*}"}
-    case $key in '"'*'"' | "'"*"'") key=${key#?} key=${key%?} ;; esac
+    case $key in
+    '"'*'"' | "'"*"'") key=${key#?} key=${key%?} ;;
+    *[!A-Za-z0-9._-]*) return ;;
+    esac
     case $table$key in
     spool) read_string && file=$string || odd_spool=$at ;;
     zone) read_string && zone=$string ;;

@@ -8,6 +8,7 @@ import fcntl
 import os
 import re
 import shutil
+import signal
 import sqlite3
 import subprocess
 import sys
@@ -317,6 +318,18 @@ def begun(desk, folder):
         return False
 
     wait_for("the desk begins", serves)
+
+
+@contextlib.contextmanager
+def stopped(process):
+    """A process that is stopped meanwhile. It isn't before it has run again after the signal."""
+    os.kill(process, signal.SIGSTOP)
+    wait_for("a process that is stopped", lambda: text_of(f"/proc/{process}/stat").rpartition(")")[2].split()[0] == "T")
+    try:
+        yield
+    finally:
+        with contextlib.suppress(ProcessLookupError):
+            os.kill(process, signal.SIGCONT)
 
 
 def has_asked(folder, size):
