@@ -268,6 +268,8 @@ explain_spool() {
 is_named_twice() {
     if [ -L "$wal" ]; then
         say link "$wal"
+    elif [ -d "$wal" ]; then
+        say kind "$wal"
     elif [ "$(stat -c %h -- "$file")" != 1 ]; then
         say names "$file"
     elif [ "$(stat -c %h -- "$wal")" != 1 ]; then
