@@ -86,6 +86,7 @@ ask_with() {
         asks_left=$((asks_left - 1))
         sleep 1
     done
+    return 0 # (a loop has the status of its last command)
 }
 
 ask_once() {
