@@ -1,13 +1,14 @@
 # uuspool: the job spool of a UUCP site, with its proofs.
 #
+#   make try        builds the program without proofs at build/try/uuspool, and shows the main job
 #   make            proves what the program stands on and leaves it at build/uuspool
 #   make first-run  the main job on a real file, killed inside a write and reopened
 #   make quick      what takes seconds and proves nothing, on the program that is there
 #   make test       the gate: every proof from nothing (but for what the kit kept of a gate that
-#                   passed here), every edit that has to be refused, every test and run, and then
-#                   the tests of tests/, one after the other
+#                   passed here), every edit that has to be refused, every test and run; and, once
+#                   the programs are proved, beside the rest, the tests of tests/ (make runs)
 #   make bench      what calls of the spool cost over a real file
-#   make install    build/uuspool, the desk and what stands behind mailers, man pages, completions and
+#   make install    build/uuspool and what stands behind mailers, man pages, completions and
 #                   examples below $(DESTDIR)$(PREFIX); make uninstall takes them away
 #   make dist       a tarball of these, and make deb a Debian package, in build/
 #   make clean      removes build/ and the kept work of every crate
@@ -17,12 +18,16 @@ DESTDIR =
 
 MAKEFLAGS += --no-print-directory
 
-.PHONY: all build first-run bench quick test install uninstall dist deb clean
+.PHONY: all build try first-run bench quick test runs install uninstall dist deb clean
 
 all: build
 
 build:
 	@scripts/build
+
+try:
+	@scripts/try
+	@scripts/first-run build/try/uuspool 8
 
 first-run: build
 	@scripts/first-run build/uuspool
@@ -31,34 +36,44 @@ bench: build
 	@scripts/bench
 
 quick:
-	@scripts/quick build/uuspool
+	@scripts/quick
 
 test:
 	@scripts/check-tree
 	@scripts/check-texts
 	@scripts/reviewed
-	@lanes=$$(scripts/lanes) && RT_JOBS=$$lanes scripts/prove-all
+	@lanes=$$(scripts/lanes) && RT_JOBS=$$lanes scripts/prove-all --beside $(MAKE) runs
+	@tests/refused-memory
+	@scripts/prove-all --again
+
+# One after the other, on the programs that rt ci leaves. The test of refused memory waits for the
+# proved tests of a crate, too.
+runs:
 	@tests/check-help
 	@tests/readme-session
 	@tests/package
 	@tests/transcripts
 	@tests/next-calls
+	@tests/routes
 	@tests/failing-streams
 	@tests/syncs
+	@tests/openings
 	@tests/migration-stops
 	@tests/batch-stops
 	@tests/unpack-stops
 	@tests/operator-size
-	@tests/crossings
 	@tests/bundle-exchange
+	@tests/seals
 	@tests/damaged-files
-	@tests/desk
-	@tests/causes
+	@tests/operate
+	@tests/fronts
+	@tests/backup
+	@tests/attacks
 	@tests/page
+	@tests/calls-units
 	@tests/calls
+	@tests/taylor
 	@tests/site
-	@tests/refused-memory
-	@scripts/prove-all --again
 
 install: build
 	@scripts/install build/uuspool '$(PREFIX)' '$(DESTDIR)'

@@ -1,7 +1,7 @@
 # What fish offers behind `uuspool`: subcommands, and the options of each.
 
 set -l subcommands load drop send request exec mail list show kill regrade rejuvenate due \
-    when queues status systems failed done forget pack unpack settle answer map neighbours name batch init help
+    when queues status systems failed done forget pack unpack settle answer map neighbours name route routes batch init site help
 set -l queuing send request exec mail
 set -l none "not __fish_seen_subcommand_from $subcommands"
 set -l has __fish_seen_subcommand_from
@@ -39,8 +39,11 @@ complete -c uuspool -n $none -a answer -d 'Reads a bundle and prints the one tha
 complete -c uuspool -n $none -a map -d 'Reads map entries from standard input and keeps them'
 complete -c uuspool -n $none -a neighbours -d 'Lists the links in the map entry of a host'
 complete -c uuspool -n $none -a name -d 'Prints the name of this site'
+complete -c uuspool -n $none -a route -d 'Prints the cheapest route to a host, by the map'
+complete -c uuspool -n $none -a routes -d 'Prints the cheapest route to each host, by the map'
 complete -c uuspool -n $none -a batch -d 'Reads requests from standard input and answers each in turn'
 complete -c uuspool -n $none -a init -d 'Makes the spool of a site'
+complete -c uuspool -n $none -a site -d 'Prints where the site is: its name, settings, folder, spool and log'
 complete -c uuspool -n $none -a help -d 'Print help, of a subcommand too'
 
 complete -c uuspool -n "$has $queuing" -s g -x -d "The job's grade"
@@ -48,7 +51,9 @@ complete -c uuspool -n "$has $queuing" -l once -x -d 'Whose job this is, and its
 complete -c uuspool -n "$has pack answer" -s g -x -d 'Only jobs of this grade and higher'
 complete -c uuspool -n "$has pack settle answer" -l spool -x -d 'The word for this spool'
 complete -c uuspool -n "$has pack answer" -l after -x -d 'Only jobs after this one'
+complete -c uuspool -n "$has pack answer" -l most -x -d 'At most this many bytes'
 complete -c uuspool -n "$has pack answer" -l no-jobs -d 'Leaves out the jobs'
 complete -c uuspool -n "$has list due when queues systems" -s s -x -d 'Only this system'
 complete -c uuspool -n "$has when" -s a -d 'All systems, with a job or without one'
 complete -c uuspool -n "$has list" -s u -x -d 'Only this user'
+complete -c uuspool -n "$has route routes" -l cost -d 'Prints the cost first'

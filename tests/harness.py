@@ -4,7 +4,6 @@ comparisons. tests/README.md says how a test uses it."""
 import argparse
 import collections
 import contextlib
-import fcntl
 import os
 import re
 import shutil
@@ -13,10 +12,7 @@ import sqlite3
 import subprocess
 import sys
 import tempfile
-import termios
 import time
-from importlib.machinery import SourceFileLoader
-from importlib.util import module_from_spec, spec_from_loader
 
 TOP = os.path.dirname(os.path.dirname(os.path.realpath(__file__)))
 # What rt ci leaves: a program of each compiler.
@@ -24,6 +20,7 @@ PROGRAMS = tuple(f"{TOP}/crates/uuspool_main/out/{name}" for name in ("uuspool_m
 SETTINGS = f"{TOP}/examples/uuspool.toml"
 LIMIT = 60  # seconds for one run of the program
 FILES = ("spool.db", "spool.db-wal")
+WORD = "-"  # the word of a test's spool, so that its bundles are the same each time
 KEPT = ("database", "log")  # the same files in a folder of tests/spools
 GRADES = "0123456789ABCDEFGHIJKLMNOPQRSTUVWXYZabcdefghijklmnopqrstuvwxyz"
 
@@ -220,14 +217,29 @@ class Batch:
 
 
 @contextlib.contextmanager
-def folder_of(begun=None, in_memory=False):
-    """A folder with the settings of examples/, and with the files of another folder's spool."""
+def folder_of(begun=None, in_memory=False, program=None):
+    """A folder with the settings of examples/, with the files of another folder's spool, or with a
+    new spool that a program makes."""
     place = "/dev/shm" if in_memory and os.path.isdir("/dev/shm") else None
     with tempfile.TemporaryDirectory(prefix="spool-", dir=place) as folder:
         shutil.copy(SETTINGS, folder)
         if begun:
             copy_files(begun, folder)
+        elif program:
+            init(program, folder)
+        put_word(folder)
         yield folder
+
+
+def init(program, folder, word=WORD):
+    """Makes the spool of a folder, which has its settings, and gives it a word."""
+    same("init", b"done\n", output_of([program, "init"], cwd=folder))
+    put_word(folder, word)
+
+
+def put_word(folder, word=WORD):
+    """Gives a spool this word."""
+    write(f"{folder}/{FILES[0]}-word", f"{word}\n", 0o600)
 
 
 def copy_files(source, target):
@@ -299,25 +311,10 @@ def text_of(path):
 
 
 def install(prefix, program=None):
-    """Installs the desk, calls and deliveries below a prefix, and the program if one is given."""
-    subprocess.run([f"{TOP}/scripts/install-desk", prefix], check=True, stdout=subprocess.DEVNULL)
-    if program:
-        shutil.copy(program, f"{prefix}/lib/uuspool/uuspool")
-
-
-def begun(desk, folder):
-    """Waits until a desk that was started serves a folder. One that was killed leaves the number of
-    its batch, and a caller may empty it, so the batch has to be one of this desk."""
-
-    def serves():
-        if desk.poll() is not None:
-            raise Wrong("the desk does not begin")
-        with contextlib.suppress(OSError):
-            number = text_of(f"{folder}/desk/now").strip()
-            return bool(number) and os.readlink(f"{folder}/desk/{number}/file").startswith(f"/proc/{desk.pid}/")
-        return False
-
-    wait_for("the desk begins", serves)
+    """Installs calls, deliveries and the commands of other UUCPs below a prefix, and the program if
+    one is given."""
+    words = [f"{TOP}/scripts/install-commands", prefix, *(["", program] if program else [])]
+    subprocess.run(words, check=True, stdout=subprocess.DEVNULL)
 
 
 @contextlib.contextmanager
@@ -330,29 +327,6 @@ def stopped(process):
     finally:
         with contextlib.suppress(ProcessLookupError):
             os.kill(process, signal.SIGCONT)
-
-
-def has_asked(folder, size):
-    """Whether so many bytes of a request are in the FIFO of a desk's batch, which is stopped."""
-    number, held = text_of(f"{folder}/desk/now").strip(), bytearray(4)
-    fifo = os.open(f"{folder}/desk/{number}/in", os.O_RDONLY | os.O_NONBLOCK)
-    try:
-        fcntl.ioctl(fifo, termios.FIONREAD, held)
-    finally:
-        os.close(fifo)
-    return int.from_bytes(held, sys.byteorder) >= size
-
-
-def batch_of(desk):
-    """The process of a desk's batch, or None: the child of the desk with that word."""
-    for name in filter(str.isdigit, os.listdir("/proc")):
-        with contextlib.suppress(OSError, ValueError, IndexError):
-            with open(f"/proc/{name}/stat", encoding="utf-8") as file:
-                parent = int(file.read().rpartition(")")[2].split()[1])
-            with open(f"/proc/{name}/cmdline", "rb") as file:
-                if parent == desk.pid and b"batch" in file.read().split(b"\0"):
-                    return int(name)
-    return None
 
 
 def processes_of(prefix):
@@ -369,12 +343,3 @@ def expect_none_left(prefix):
     with contextlib.suppress(Wrong):
         wait_for("the end of all processes", lambda: not any(processes_of(prefix)))
     same("processes that are left", [], [*processes_of(prefix)])
-
-
-def loaded(path):
-    """A command in Python as a module, so that a test can call its functions."""
-    sys.dont_write_bytecode = True
-    loader = SourceFileLoader(os.path.basename(path).replace("-", "_"), path)
-    module = module_from_spec(spec_from_loader(loader.name, loader))
-    loader.exec_module(module)
-    return module

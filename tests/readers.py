@@ -1,12 +1,13 @@
 #!/usr/bin/env python3
-"""Plain readers of time strings, sys files, map entries and the first lines of messages, in ASCII:
-a second opinion to that of the crates.
+"""Plain readers of time strings, sys files, map entries with their routes, and the first lines of
+messages, in ASCII: a second opinion to that of the crates.
 
 They follow the Taylor UUCP 1.07 manual ("Time Strings", "The Sys File"), the UUCP Mapping Project's
 form of an entry, and what docs/decisions adds to them. They share no code with the crates and never
 ask them. Each takes the whole text at once. Time strings are regular expressions, and a set of
 minutes is a set. How far a text begins a time string is found by completing it.
 """
+import heapq
 import re
 
 # Time strings, those of the worked sys file among them, and texts that aren't time strings.
@@ -359,14 +360,14 @@ def meaning(host, statement):
     return [link(part) for part in elements(form["links"] or "")], aliases
 
 
-def entry(text):
-    """What a map entry says, if no link is named twice, no name has a mark and a cost has at
-    most one operator."""
+def facts(text):
+    """What a map entry says, if no name has a mark and a cost has at most one operator: its host, its
+    links as costs and names, its aliases, and the numbers of the lines that are skipped."""
     named = re.search(r"^#N(?:[ \t]+([^ \t,\n]*).*)?$", text, re.MULTILINE)
     if not named or not named[1]:
-        return "no name"
+        raise Fault("no name")
     if not re.fullmatch(SITE_NAME, named[1]):
-        return "bad host"
+        raise Fault("bad host")
     links, aliases, skipped = [], [], []
     for place, statement in statements(text):
         try:
@@ -376,10 +377,72 @@ def entry(text):
         else:
             links += more_links
             aliases += more_aliases
+    return named[1], links, aliases, skipped
+
+
+def entry(text):
+    """What a map entry says, if no link is named twice, as a text."""
+    try:
+        host, links, aliases, skipped = facts(text)
+    except Fault as fault:
+        return str(fault)
     shown = [f"{name} {'dead' if price == DEAD else price}/" for price, name in sorted(links)]
     shown += [f"= {alias}/" for alias in aliases]
     shown += [f"skipped {place}/" for place in skipped]
-    return f"{named[1]}: {''.join(shown)}"
+    return f"{host}: {''.join(shown)}"
+
+
+class Routes:
+    """The routes of a site over the entries of a map, of which none has the same host as another. A way
+    is a triple of its cost, its number of sites and their names. The ways are tried from the least one
+    on, so the first that comes to a host is its route. A later one that comes there with fewer sites may
+    still be the front of a route, because a route has at most 127 sites."""
+
+    def __init__(self, texts, own, systems):
+        self.entries, self.claims = [facts(text) for text in texts], {}
+        for host, _, aliases, _ in self.entries:
+            for name in {host, *aliases}:
+                self.claims.setdefault(name, []).append(host)
+        self.own, self.systems = self.host(own), sorted(systems)
+        links = {}
+        for host, listed, _, _ in self.entries:
+            links[host] = [(price, self.host(name)) for price, name in listed if price != DEAD]
+        ways = [(price, 1, (host,)) for price, host in self.first_hops()]
+        heapq.heapify(ways)
+        self.found, fewest = {}, {}
+        while ways:
+            price, sites, path = heapq.heappop(ways)
+            host = path[-1]
+            self.found.setdefault(host, (price, path))
+            if fewest.get(host, 128) <= sites:
+                continue
+            fewest[host] = sites
+            if sites < 127 and host != self.own:
+                for more, following in links.get(host, ()):
+                    if fewest.get(following, 128) > sites + 1:
+                        heapq.heappush(ways, (price + more, sites + 1, (*path, following)))
+
+    def host(self, name):
+        """The host that a name means."""
+        claims = self.claims.get(name, [])
+        return claims[0] if len(claims) == 1 else name
+
+    def first_hops(self):
+        """The systems' hosts, and what a call to each costs."""
+        listed = [its for host, its, _, _ in self.entries if host == self.own]
+        for host in {self.host(system) for system in self.systems}:
+            prices = [price for price, name in (listed[0] if listed else ()) if self.host(name) == host]
+            if not prices:
+                yield 4000, host
+            elif min(prices) != DEAD:
+                yield min(prices), host
+
+    def lines(self):
+        """The lines of all routes with their costs."""
+        for host, (price, path) in sorted(self.found.items()):
+            if host != self.own:
+                first = next(system for system in self.systems if self.host(system) == path[0])
+                yield f"{price}\t{host}\t{'!'.join((first, *path[1:]))}!%s"
 
 
 def leading_line(line, begin):

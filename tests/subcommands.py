@@ -1,17 +1,16 @@
 #!/usr/bin/env python3
 """What the program's help names, and the lines that tests run of each subcommand. tests/check-help
-fails if a subcommand lacks its line. A new subcommand has a line in each of DESK and MEMORY, and one in
-CHANGING or ASKING; in READING too, if it reads an input."""
+fails if a subcommand lacks its line. A new subcommand has a line in MEMORY, and one in CHANGING or
+ASKING; in READING too, if it reads an input."""
 import re
 import subprocess
 
 from bundles import bundle, has, job, mark_of, no
 from harness import LIMIT
 
-# main handles these itself; they aren't subcommands.
+# main handles these itself; they aren't subcommands of a batch. The first has a line of its own in the help.
 BY_MAIN = {"batch"}
-# These are subcommands of uuspool only, and not of the program.
-BY_COMMAND = {"init"}
+BY_COMMAND = {"init", "site"}
 
 
 class Help:
@@ -106,6 +105,8 @@ ASKING = [
     ([*AT, "answer", "phs", "duke"], MAIL, TO_PHS),
     (["neighbours", "unc"], b"", b"duke 5\n"),
     (["name"], b"", b"mysite\n"),
+    (["route", "--cost", "duke"], b"", b"4000\tduke\tduke!%s\n"),
+    (["routes"], b"", b"duke\tduke!%s\nphs\tphs!%s\n"),
 ]
 # Lines that read an input, and take it once it ends.
 READING = [
@@ -173,6 +174,8 @@ MEMORY = {
     "map": ([DUKE], ["map"], UNC + MCNC, [(["map"], UNC)]),
     "neighbours": (FULL, ["neighbours", "unc"], b"", []),
     "name": ([DUKE], ["name"], b"", []),
+    "route": (FULL, ["route", "--cost", "phs"], b"", []),
+    "routes": (FULL, ["routes"], b"", []),
     "wrong words": ([DUKE], ["nonsense"], b"", []),
     "help": ([], ["-h"], b"", []),
     "version": ([], ["--version"], b"", []),
@@ -181,98 +184,3 @@ MEMORY = {
     "send, version 2": (2, [*AT, "send", "duke", "/tmp/a", "~/a", "--once", "unc!7"], JOB, [(["list"], b"")]),
     "a bad sys file": ([DUKE], ["load"], b"system a\nsystem a\n", []),
 }
-
-
-# ---- lines through the desk (tests/desk)
-
-BIG = bytes(range(256)) * 300
-DESK_MAIL = bundle(b"phs", b"mysite", 11, job(b"phs", b"mysite", 11, b"A", b"bob", b"exec rmail duke!joe", b"Hello\n"))
-DESK_HAS = bundle(b"duke", b"mysite", 1, has(4, mark_of(b"mysite", b"duke", 4, b"ann", b"request /a ~/b", b"", b"5.7")))
-DESK = [
-    (["load"], b"system duke\ntime Any\nsystem phs\nfrob x\n"),
-    (["load"], b"system duke\ntime Xx\n"),
-    ([*AT, "send", "duke", "/tmp/a", "~/a"], b"hello"),
-    ([*AT, "send", "duke", "/tmp/a", "~/a", "-g", "A"], b""),
-    (["send", "nosuch", "/a", "b"], b"x"),
-    (["send", "du ke", "a", "b"], b"x"),
-    (["send", "", "a", "b"], b"x"),
-    (["send", "duke", "a"], b"x"),
-    (["send", "duke", "a\nb", "b"], b"x"),
-    (["send", "duke", "\xe9", "b"], b"x"),
-    ([*AT, "send", "duke", "/a", "~/b"], BIG),
-    (["send", "duke", "/a", "~/b"], b"q" * ((1 << 20) + 1)),
-    (["send", "duke", "/a", "~/b"], b"q" * ((4 << 20) + 1)),
-    (["send", "du/ke", "/a", "~/b"], b"q" * ((4 << 20) + 1)),
-    ([*AT, "request", "duke", "/a", "~/b"], b"not read"),
-    ([*AT, "exec", "duke", "rmail", "--", "-x", "--help", "ann"], b"mail"),
-    ([*AT, "exec", "duke", "batch", "help", "list"], b""),
-    ([*AT, "mail", "duke!ann", "duke!bob"], b"From x\nhi\n"),
-    ([*AT, "mail", "duke!ann", "phs!bob"], b"hi"),
-    ([*AT, "send", "duke", "/a", "~/c", "--once", "phs!9"], b"once"),
-    ([*AT, "send", "duke", "/a", "~/c", "--once", "phs!9"], b"once"),
-    ([*AT, "send", "duke", "/a", "~/c", "--once", "phs!9"], b"twice"),
-    ([*AT, "send", "duke", "/a", "~/c", "--once", "phs!9!w"], b"once"),
-    ([*AT, "exec", "--once=phs!10!a!b", "duke", "rmail", "ann"], b"once"),
-    (["forget", "phs", "9"], b""),
-    (["pack", "duke"], b""),
-    (["pack", "duke", "-g", "A", "--spool", "5.7"], b""),
-    (["pack", "nosuch"], b""),
-    ([*AT, "unpack", "phs", "duke"], DESK_MAIL),
-    ([*AT, "unpack", "phs"], DESK_MAIL),
-    (["unpack", "duke"], DESK_MAIL),
-    (["unpack", "phs"], DESK_MAIL[:-4]),
-    (["unpack", "phs"], b"bundle phs\n"),
-    ([*AT, "answer", "phs", "duke"], DESK_MAIL),
-    (["answer", "phs"], DESK_MAIL[:-4]),
-    (["answer", "phs", "--no-jobs", "--spool", "5.7"], DESK_MAIL),
-    (["answer", "duke"], DESK_MAIL),
-    (["pack", "duke", "--after", "3"], b""),
-    (["pack", "duke", "--no-jobs", "-g", "A"], b""),
-    (["settle", "phs"], DESK_MAIL),
-    (["settle", "duke"], DESK_MAIL),
-    (["settle", "duke", "--spool", "5.7"], DESK_HAS),
-    (["settle", "duke", "--spool", "5.7"], DESK_HAS),
-    (["list"], b""),
-    (["list", "-s", "duke"], b""),
-    (["list", "-u", "nobody"], b""),
-    (["show", "1"], b""),
-    (["show", "3"], b""),
-    (["show", "99"], b""),
-    (["show", "x"], b""),
-    (["--at", "1000000000", "due"], b""),
-    (["--at", "1000000000", "due", "-s", "duke"], b""),
-    (["--at", "1000000000", "when"], b""),
-    (["--at", "1000000000", "when", "-a"], b""),
-    (["queues", "-s", "duke"], b""),
-    (["systems"], b""),
-    (["systems", "-s", "phs"], b""),
-    (["name"], b""),
-    (["status"], b""),
-    ([*AT, "failed", "duke", "busy"], b""),
-    (["status"], b""),
-    ([*AT, "done", "duke", "1"], b""),
-    ([*AT, "done", "duke", "1"], b""),
-    (["--as", "bob", "kill", "2"], b""),
-    (["--as=ann", "kill", "2"], b""),
-    (["--as", "ann", "regrade", "3", "z"], b""),
-    (["--at=1000000000", "--as", "ann", "rejuvenate", "3"], b""),
-    (["map"], b"#N duke\nduke phs(HOURLY), bob\n#N duke\n"),
-    (["map"], b"\n#N \xff\n"),
-    (["neighbours", "duke"], b""),
-    (["neighbours", "no"], b""),
-    (["drop", "duke"], b""),
-    (["drop", "phs"], b""),
-    ([], b""),
-    (["frob"], b""),
-    (["--help"], b""),
-    (["--version"], b""),
-    (["list", "-V"], b""),
-    (["help", "send"], b""),
-    (["send", "--help"], b"x"),
-    (["--as", "-h", "list"], b""),
-    (["--", "list"], b""),
-    (["--at", "x", "due"], b""),
-    (["--at=99999999999", "due"], b""),
-    (["--at", "4102444801", "list"], b""),
-    (["list", "-g", "x"], b""),
-]

@@ -9,3 +9,4 @@ pub mod Uniqueness
 pub mod OneBundle
 pub mod Made
 pub mod Room
+pub mod First

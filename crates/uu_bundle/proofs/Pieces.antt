@@ -6,7 +6,7 @@ use Rattle.std.specs.Prelude.{nat_le}
 use Rattle.uu_core.specs.State.{most_bytes}
 use Rattle.std.proofs.lemmas.Bool.Decides.{nat_tests}
 use Rattle.std.proofs.lemmas.Bool.{and_from, and_parts, and_right}
-use Rattle.uu_bundle.specs.Bundles.{has_room, is_short, is_within_limits, most_bundle, takes_job, text_with_job}
+use Rattle.uu_bundle.specs.Bundles.{has_room, is_short, is_within_limits, takes_job, text_with_job}
 use Rattle.uu_bundle.specs.Texts.{job_words, line_text, record_text, spaced_words}
 use Rattle.uu_bundle.specs.declared.bundle.Parcel.{Parcel}
 use Rattle.uu_bundle.specs.declared.bundle.Record.TheVariants.{Job}
@@ -71,27 +71,27 @@ size_of job line is = ap length is ∙ length-append (line ++ job.bytes) (10 ∷
 pub within_bytes : (job : Parcel) → is_within_limits job ≡ true → length job.bytes ≤ most_bytes
 within_bytes job within = leb-true (length job.bytes) most_bytes (and_parts (nat_le 1 job.number && is_short job.kind) (nat_le (length job.bytes) most_bytes) within).1
 
-pub none_over : (text : List ℕ) (job : Parcel) → is_within_limits job ≡ false → takes_job text job ≡ false
-none_over text job over = rw over
+pub none_over : (most : ℕ) (text : List ℕ) (job : Parcel) → is_within_limits job ≡ false → takes_job most text job ≡ false
+none_over most text job over = rw over
 
-room_is : (text : List ℕ) (job : Parcel) (n : ℕ) → length (record_text (Job job)) ≡ n → length text + n + 4 ≤ most_bundle → has_room text job ≡ true
-room_is text job n size fits = grind (arith, nat_tests)
+pub room_is : (most : ℕ) (text : List ℕ) (job : Parcel) (n : ℕ) → length (record_text (Job job)) ≡ n → length text + n + 4 ≤ most → has_room most text job ≡ true
+room_is most text job n size fits = grind (arith, nat_tests)
 
-room_not : (text : List ℕ) (job : Parcel) (n : ℕ) → length (record_text (Job job)) ≡ n → most_bundle < length text + n + 4 → has_room text job ≡ false
-room_not text job n size over = grind (arith, nat_tests)
+room_not : (most : ℕ) (text : List ℕ) (job : Parcel) (n : ℕ) → length (record_text (Job job)) ≡ n → most < length text + n + 4 → has_room most text job ≡ false
+room_not most text job n size over = grind (arith, nat_tests)
 
-pub none_no_room : (text : List ℕ) (job : Parcel) (line : List ℕ) → record_text (Job job) ≡ (line ++ job.bytes) ++ 10 ∷ [] → most_bundle < length text + length line + length job.bytes + 1 + 4 → takes_job text job ≡ false
-none_no_room text job line is over = and_right (is_within_limits job) (has_room text job) (room_not text job (length line + length job.bytes + 1) (size_of job line is) (omega arith))
+pub none_no_room : (most : ℕ) (text : List ℕ) (job : Parcel) (line : List ℕ) → record_text (Job job) ≡ (line ++ job.bytes) ++ 10 ∷ [] → most < length text + length line + length job.bytes + 1 + 4 → takes_job most text job ≡ false
+none_no_room most text job line is over = and_right (is_within_limits job) (has_room most text job) (room_not most text job (length line + length job.bytes + 1) (size_of job line is) (omega arith))
 
-pub some_room : (text : List ℕ) (job : Parcel) (line : List ℕ) → is_within_limits job ≡ true → record_text (Job job) ≡ (line ++ job.bytes) ++ 10 ∷ [] → length text + length line + length job.bytes + 1 + 4 ≤ most_bundle → takes_job text job ≡ true
-some_room text job line within is fits = and_from (is_within_limits job) (has_room text job) within (room_is text job (length line + length job.bytes + 1) (size_of job line is) (omega arith))
+pub some_room : (most : ℕ) (text : List ℕ) (job : Parcel) (line : List ℕ) → is_within_limits job ≡ true → record_text (Job job) ≡ (line ++ job.bytes) ++ 10 ∷ [] → length text + length line + length job.bytes + 1 + 4 ≤ most → takes_job most text job ≡ true
+some_room most text job line within is fits = and_from (is_within_limits job) (has_room most text job) within (room_is most text job (length line + length job.bytes + 1) (size_of job line is) (omega arith))
 
 -- what is added, and that it is
-pub added_not : (text new : List ℕ) (job : Parcel) → takes_job text job ≡ false → new ≡ text → (false ≡ takes_job text job) × (new ≡ text_with_job text job)
-added_not text new job is same = (sym is, same ∙ ap (λ b. cond b (text ++ record_text (Job job)) text) (sym is))
+pub added_not : (most : ℕ) (text new : List ℕ) (job : Parcel) → takes_job most text job ≡ false → new ≡ text → (false ≡ takes_job most text job) × (new ≡ text_with_job most text job)
+added_not most text new job is same = (sym is, same ∙ ap (λ b. cond b (text ++ record_text (Job job)) text) (sym is))
 
-pub added_there : (text new : List ℕ) (job : Parcel) → takes_job text job ≡ true → new ≡ text ++ record_text (Job job) → (true ≡ takes_job text job) × (new ≡ text_with_job text job)
-added_there text new job is same = (sym is, same ∙ ap (λ b. cond b (text ++ record_text (Job job)) text) (sym is))
+pub added_there : (most : ℕ) (text new : List ℕ) (job : Parcel) → takes_job most text job ≡ true → new ≡ text ++ record_text (Job job) → (true ≡ takes_job most text job) × (new ≡ text_with_job most text job)
+added_there most text new job is same = (sym is, same ∙ ap (λ b. cond b (text ++ record_text (Job job)) text) (sym is))
 
 pub appended : (text line bytes whole : List ℕ) → whole ≡ (line ++ bytes) ++ 10 ∷ [] → ((text ++ line) ++ bytes) ++ 10 ∷ [] ≡ text ++ whole
 appended text line bytes whole is =

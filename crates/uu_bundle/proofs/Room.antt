@@ -37,7 +37,7 @@ use Rattle.uu_bundle.proofs.MarkSizes.{mark_below}
 abbrev shared : ℕ → ℕ → ℕ
 shared number mark = length (decimal number) + length (decimal mark)
 
-told_sized : (row : Taken) → length (record_text (Has (told_of row))) ≡ 6 + shared row.number row.mark
+pub told_sized : (row : Taken) → length (record_text (Has (told_of row))) ≡ 6 + shared row.number row.mark
 told_sized row =
     let words = told_words (told_of row) in
     omega (

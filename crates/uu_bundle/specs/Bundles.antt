@@ -1,5 +1,5 @@
 -- How a bundle is written (this project's choice).
-use Rattle.std.specs.Prelude.{◌≡◌, ℕ, ◌+◌, ◌<◌, ◌^◌, Bool, IsTrue, true, ◌&&◌, if◌then◌else◌, nat_le, List, [], ◌∷◌, ◌++◌, All, AllPairs, None, length, map}
+use Rattle.std.specs.Prelude.{◌≡◌, ℕ, ◌+◌, ◌/◌, ◌<◌, ◌^◌, Bool, IsTrue, true, ◌&&◌, if◌then◌else◌, nat_le, List, [], ◌∷◌, ◌++◌, All, AllPairs, None, length, map}
 use Rattle.std.specs.List.{flat_map}
 use Rattle.uu_names.specs.Grade.{grade_count}
 use Rattle.uu_names.specs.Name.{is_word}
@@ -26,10 +26,10 @@ use Rattle.uu_bundle.specs.declared.bundle.Told.{Told}
 abbrev pub most_bundle : ℕ
 most_bundle = 4194304
 
--- the most bytes of its first line and of the taken jobs, if it doesn't answer another: half of a
--- bundle
-abbrev pub most_told : ℕ
-most_told = 2097152
+-- half of a bundle of this many bytes: the most bytes of its first line and of the taken jobs, if it
+-- doesn't answer another
+abbrev pub half : ℕ → ℕ
+half most = most / 2
 
 -- ---- a bundle and its text
 
@@ -68,16 +68,22 @@ told_records taken = map (λ one. Has (told_of one)) taken
 abbrev pub text_with_told : List ℕ → List Taken → List ℕ
 text_with_told text taken = text ++ records_text (told_records taken)
 
--- as many of the taken jobs, from the first on, as the text has room for in half of a bundle
-abbrev pub told_with_room : List ℕ → List Taken → List Taken
-told_with_room text [] = []
-told_with_room text (one ∷ taken) =
+-- as many of the taken jobs, from the first on, as the text has room for: the text with the first one
+-- has at most `first` bytes, and with each further one at most `further`
+abbrev pub told_with_room : ℕ → ℕ → List ℕ → List Taken → List Taken
+told_with_room first further text [] = []
+told_with_room first further text (one ∷ taken) =
     let more = text ++ record_text (Has (told_of one)) in
-    if nat_le (length more) most_told then one ∷ told_with_room more taken else []
+    if nat_le (length more) first then one ∷ told_with_room further further more taken else []
 
--- the beginning of a bundle that answers none: its first line, and as many of the taken jobs as fit
-abbrev pub front_text : Heading → List Taken → List ℕ
-front_text heading taken = text_with_told (heading_text heading) (told_with_room (heading_text heading) taken)
+-- what a bundle of at most so many bytes that answers none has of the taken jobs: the first one, if
+-- half of the longest bundle has room for it, and the next ones within half of this bundle
+abbrev pub told_first : ℕ → Heading → List Taken → List Taken
+told_first most heading taken = told_with_room (half most_bundle) (half most) (heading_text heading) taken
+
+-- its beginning: its first line, and these
+abbrev pub front_text : ℕ → Heading → List Taken → List ℕ
+front_text most heading taken = text_with_told (heading_text heading) (told_first most heading taken)
 
 -- the beginning of a bundle that answers another: its first line, and all of these
 abbrev pub answer_front_text : Heading → List Taken → List ℕ
@@ -117,27 +123,29 @@ is_short (Execute command arguments) = nat_le (length arguments) most_arguments
 abbrev pub is_within_limits : Parcel → Bool
 is_within_limits job = nat_le 1 job.number && is_short job.kind && nat_le (length job.bytes) most_bytes
 
--- there is room for the job, and for `end` after it
-abbrev pub has_room : List ℕ → Parcel → Bool
-has_room text job = nat_le (length text + length (record_text (Job job)) + length end_text) most_bundle
+-- there is room for the job, and for `end` after it, in a bundle of at most so many bytes
+abbrev pub has_room : ℕ → List ℕ → Parcel → Bool
+has_room most text job = nat_le (length text + length (record_text (Job job)) + length end_text) most
 
 -- the text with the job, if it goes into it
-abbrev pub takes_job : List ℕ → Parcel → Bool
-takes_job text job = is_within_limits job && has_room text job
+abbrev pub takes_job : ℕ → List ℕ → Parcel → Bool
+takes_job most text job = is_within_limits job && has_room most text job
 
-abbrev pub text_with_job : List ℕ → Parcel → List ℕ
-text_with_job text job = if takes_job text job then text ++ record_text (Job job) else text
+abbrev pub text_with_job : ℕ → List ℕ → Parcel → List ℕ
+text_with_job most text job = if takes_job most text job then text ++ record_text (Job job) else text
 
--- as many of these jobs, from the first on, as fit into the text
-abbrev pub jobs_with_room : List ℕ → List Parcel → List Parcel
-jobs_with_room text [] = []
-jobs_with_room text (job ∷ jobs) =
-    if takes_job text job then job ∷ jobs_with_room (text ++ record_text (Job job)) jobs else []
+-- as many of these jobs, from the first on, as fit into the text: the first one if the bundle then
+-- has at most `first` bytes, and each further one within `further`
+abbrev pub jobs_with_room : ℕ → ℕ → List ℕ → List Parcel → List Parcel
+jobs_with_room first further text [] = []
+jobs_with_room first further text (job ∷ jobs) =
+    if takes_job first text job then job ∷ jobs_with_room further further (text ++ record_text (Job job)) jobs else []
 
 -- the text with them
-abbrev pub text_with_jobs : List ℕ → List Parcel → List ℕ
-text_with_jobs text [] = text
-text_with_jobs text (job ∷ jobs) = if takes_job text job then text_with_jobs (text ++ record_text (Job job)) jobs else text
+abbrev pub text_with_jobs : ℕ → ℕ → List ℕ → List Parcel → List ℕ
+text_with_jobs first further text [] = text
+text_with_jobs first further text (job ∷ jobs) =
+    if takes_job first text job then text_with_jobs further further (text ++ record_text (Job job)) jobs else text
 
 -- a job whose fields are within the limits of their types, with its mark
 pub record IsGiven (heading : Heading) (job : Parcel) : Type 0 where
@@ -150,9 +158,9 @@ pub record IsGiven (heading : Heading) (job : Parcel) : Type 0 where
 -- ---- whole bundles, whose text this is once `end` follows it
 
 -- an answer: all that it has of the jobs that the other bundle asks about, all that it won't take,
--- and as many waiting jobs as there is room for
-abbrev pub answer_bundle : Heading → List Taken → List Refused → List Parcel → Bundle
-answer_bundle heading taken refused jobs =
+-- the first waiting job, and from there on as many as this many bytes have room for
+abbrev pub answer_bundle : ℕ → Heading → List Taken → List Refused → List Parcel → Bundle
+answer_bundle most heading taken refused jobs =
     record {
       from = heading.from;
       to = heading.to;
@@ -161,21 +169,22 @@ answer_bundle heading taken refused jobs =
       grade = heading.grade;
       has = map told_of taken;
       refused = refused;
-      jobs = jobs_with_room (text_with_refused (answer_front_text heading taken) refused) jobs;
+      jobs = jobs_with_room most_bundle most (text_with_refused (answer_front_text heading taken) refused) jobs;
       stopped = None;
     }
 
--- what there is to say to a neighbour that asked nothing
-abbrev pub packed_bundle : Heading → List Taken → List Parcel → Bundle
-packed_bundle heading taken jobs =
+-- what there is to say to a neighbour that asked nothing, in at most so many bytes, but for the first
+-- taken job and the first waiting one
+abbrev pub packed_bundle : ℕ → Heading → List Taken → List Parcel → Bundle
+packed_bundle most heading taken jobs =
     record {
       from = heading.from;
       to = heading.to;
       spool = heading.spool;
       below = heading.below;
       grade = heading.grade;
-      has = map told_of (told_with_room (heading_text heading) taken);
+      has = map told_of (told_first most heading taken);
       refused = [];
-      jobs = jobs_with_room (front_text heading taken) jobs;
+      jobs = jobs_with_room most_bundle most (front_text most heading taken) jobs;
       stopped = None;
     }

@@ -6,7 +6,7 @@ use Rattle.uu_core.specs.State.{IsKind}
 use Rattle.uu_core.specs.declared.job.Kind.{Kind}
 use Rattle.uu_core.specs.declared.refusal.Refusal.{Refusal}
 use Rattle.uu_core.specs.declared.custody.Taken.{Taken}
-use Rattle.uu_bundle.specs.Bundles.{heading_of, most_told, records_of, text_with_told}
+use Rattle.uu_bundle.specs.Bundles.{half, heading_of, most_bundle, records_of, text_with_told}
 use Rattle.uu_bundle.specs.Texts.{heading_text, marked_text}
 use Rattle.uu_bundle.specs.declared.bundle.Bundle.{Bundle}
 use Rattle.uu_bundle.specs.declared.bundle.Heading.{Heading}
@@ -28,15 +28,22 @@ pub record IsFrontOf (front whole : Bundle) : Type 0 where
   pub records : records_of whole ≡ records_of front ++ more
   pub stopped : IsSome front.stopped
 
--- The text is the first line and the first of the taken jobs, within half of a bundle. With the
--- next one it would be longer than that.
-pub record IsLongestFront (heading : Heading) (taken : List Taken) (text : List ℕ) : Type 0 where
+-- the room for the next taken job, after these: `first` for the first one, and then `further`
+abbrev pub room_for : ℕ → ℕ → List Taken → ℕ
+room_for first further [] = first
+room_for first further (one ∷ taken) = further
+
+-- The text is the first line and the first of the taken jobs, within half of the longest bundle, and
+-- within half of a bundle of so many bytes if it has more than one of these. With the next one it
+-- would be longer than that.
+pub record IsLongestFront (most : ℕ) (heading : Heading) (taken : List Taken) (text : List ℕ) : Type 0 where
   pub first : List Taken
   pub others : List Taken
   pub is_front : taken ≡ first ++ others
   pub is_text : text ≡ text_with_told (heading_text heading) first
-  pub fits : length text ≤ most_told
-  pub longest : (next : Taken) (more : List Taken) → others ≡ next ∷ more → most_told < length (text_with_told text (next ∷ []))
+  pub fits : length text ≤ half most_bundle
+  pub within : 1 < length first → length text ≤ half most
+  pub longest : (next : Taken) (more : List Taken) → others ≡ next ∷ more → room_for (half most_bundle) (half most) first < length (text_with_told text (next ∷ []))
 
 -- the part of a job that its mark covers
 pub record Marked : Type 0 where

@@ -1,6 +1,6 @@
 //! Laws of the definitions that the contracts cite.
-ghost use Rattle.std.specs.Prelude.{◌≡◌, ◌+◌, ◌<◌, ◌≤◌, ◌++◌, ◌↔◌, ℕ, List, All, length};
-ghost use Rattle.uu_bundle.specs.Bundles.{AreTaken, IsBundle, IsGiven, answer_front_text, answer_bundle, bundle_text, front_text, heading_of, most_bundle, packed_bundle, text_with_jobs, text_with_refused};
+ghost use Rattle.std.specs.Prelude.{◌≡◌, ◌≢◌, ◌+◌, ◌<◌, ◌≤◌, ◌++◌, ◌↔◌, ◌∷◌, ℕ, List, [], All, IsTrue, length};
+ghost use Rattle.uu_bundle.specs.Bundles.{AreTaken, IsBundle, IsGiven, answer_front_text, answer_bundle, bundle_text, front_text, heading_of, is_within_limits, most_bundle, packed_bundle, text_with_jobs, text_with_refused};
 ghost use Rattle.uu_bundle.specs.Laws.{AreAnswers, IsCutOff, IsFrontOf, IsLongestFront, IsMarked, Marked, marked_text_of};
 ghost use Rattle.uu_bundle.specs.Reading.{IsNoBundle, IsRead};
 ghost use Rattle.uu_bundle.specs.Texts.{IsHeading, IsRefused, end_text, heading_text};
@@ -34,24 +34,29 @@ pub fn texts_tell_apart()
 {}
 
 /// Call `begin_bundle`, `add_job` for one job after the other until one doesn't fit, and
-/// `end_bundle`. They write the text of a bundle. It has as many of the taken jobs, from the first
-/// on, as fit in half of a bundle. It has as many of the waiting jobs, from the first on, as there
-/// is room for. It is never longer than a bundle may be.
+/// `end_bundle`. They write the text of a bundle. It has the first of the taken jobs, and from there
+/// on as many as fit in half of so many bytes. It has the first of the waiting jobs, whatever its
+/// size, and from there on as many as there is room for in so many bytes. It is never longer than a
+/// bundle may be. It has more than so many bytes only if it has no job after the first one.
 pub fn pieces_make_a_bundle()
-    ensures text { (heading : Heading) (taken : List Taken) (jobs : List Parcel) → text_with_jobs (front_text heading taken) jobs ++ end_text ≡ bundle_text (packed_bundle heading taken jobs) }
-    ensures longest { (heading : Heading) (taken : List Taken) → IsHeading heading → IsLongestFront heading taken (front_text heading taken) }
-    ensures sound { (heading : Heading) (taken : List Taken) (jobs : List Parcel) → IsHeading heading → AreTaken taken → All (IsGiven heading) jobs → IsBundle (packed_bundle heading taken jobs) }
-    ensures room { (heading : Heading) (taken : List Taken) (jobs : List Parcel) → IsHeading heading → length (bundle_text (packed_bundle heading taken jobs)) ≤ most_bundle }
+    ensures text { (most : ℕ) (heading : Heading) (taken : List Taken) (jobs : List Parcel) → text_with_jobs most_bundle most (front_text most heading taken) jobs ++ end_text ≡ bundle_text (packed_bundle most heading taken jobs) }
+    ensures longest { (most : ℕ) (heading : Heading) (taken : List Taken) → most ≤ most_bundle → IsHeading heading → IsLongestFront most heading taken (front_text most heading taken) }
+    ensures some_told { (most : ℕ) (heading : Heading) (taken : List Taken) (jobs : List Parcel) → IsHeading heading → AreTaken taken → taken ≢ [] → (packed_bundle most heading taken jobs).has ≢ [] }
+    ensures some_job { (most : ℕ) (heading : Heading) (taken : List Taken) (job : Parcel) (jobs : List Parcel) → most ≤ most_bundle → IsHeading heading → IsGiven heading job → IsTrue (is_within_limits job) → (packed_bundle most heading taken (job ∷ jobs)).jobs ≢ [] }
+    ensures sound { (most : ℕ) (heading : Heading) (taken : List Taken) (jobs : List Parcel) → IsHeading heading → AreTaken taken → All (IsGiven heading) jobs → IsBundle (packed_bundle most heading taken jobs) }
+    ensures room { (most : ℕ) (heading : Heading) (taken : List Taken) (jobs : List Parcel) → most ≤ most_bundle → IsHeading heading → length (bundle_text (packed_bundle most heading taken jobs)) ≤ most_bundle }
+    ensures most { (most : ℕ) (heading : Heading) (taken : List Taken) (jobs : List Parcel) → 1 < length (packed_bundle most heading taken jobs).jobs → length (bundle_text (packed_bundle most heading taken jobs)) ≤ most }
 {}
 
 /// Call `begin_answer`, `add_refused` for each job that isn't taken, `add_job` for one job after
 /// the other until one doesn't fit, and `end_bundle`. They write the text of a bundle that has all
 /// taken jobs and all refused jobs. It is not longer than a bundle may be, if the part with these
-/// isn't.
+/// isn't. It has more than so many bytes only if it has no job after the first one.
 pub fn pieces_make_an_answer()
-    ensures text { (heading : Heading) (taken : List Taken) (refused : List Refused) (jobs : List Parcel) → text_with_jobs (text_with_refused (answer_front_text heading taken) refused) jobs ++ end_text ≡ bundle_text (answer_bundle heading taken refused jobs) }
-    ensures sound { (heading : Heading) (taken : List Taken) (refused : List Refused) (jobs : List Parcel) → IsHeading heading → AreTaken taken → All IsRefused refused → All (IsGiven heading) jobs → IsBundle (answer_bundle heading taken refused jobs) }
-    ensures room { (heading : Heading) (taken : List Taken) (refused : List Refused) (jobs : List Parcel) → length (text_with_refused (answer_front_text heading taken) refused) + length end_text ≤ most_bundle → length (bundle_text (answer_bundle heading taken refused jobs)) ≤ most_bundle }
+    ensures text { (most : ℕ) (heading : Heading) (taken : List Taken) (refused : List Refused) (jobs : List Parcel) → text_with_jobs most_bundle most (text_with_refused (answer_front_text heading taken) refused) jobs ++ end_text ≡ bundle_text (answer_bundle most heading taken refused jobs) }
+    ensures sound { (most : ℕ) (heading : Heading) (taken : List Taken) (refused : List Refused) (jobs : List Parcel) → IsHeading heading → AreTaken taken → All IsRefused refused → All (IsGiven heading) jobs → IsBundle (answer_bundle most heading taken refused jobs) }
+    ensures room { (most : ℕ) (heading : Heading) (taken : List Taken) (refused : List Refused) (jobs : List Parcel) → most ≤ most_bundle → length (text_with_refused (answer_front_text heading taken) refused) + length end_text ≤ most_bundle → length (bundle_text (answer_bundle most heading taken refused jobs)) ≤ most_bundle }
+    ensures most { (most : ℕ) (heading : Heading) (taken : List Taken) (refused : List Refused) (jobs : List Parcel) → 1 < length (answer_bundle most heading taken refused jobs).jobs → length (bundle_text (answer_bundle most heading taken refused jobs)) ≤ most }
 {}
 
 /// The answer to a bundle of at most 4,194,304 bytes has room for its last line. The reason is that

@@ -1,6 +1,6 @@
 // Bundles, written piece by piece.
 ghost use Rattle.std.specs.Prelude.{◌≡◌, ◌++◌, ◌∷◌, [], ℕ, List, IfOk, OnOk, codes, length, map};
-ghost use Rattle.uu_bundle.specs.Bundles.{answer_front_text, front_text, is_within_limits, parcel_of, takes_job, told_of, told_with_room, text_with_job, text_with_refused, text_with_told};
+ghost use Rattle.uu_bundle.specs.Bundles.{answer_front_text, front_text, is_within_limits, parcel_of, half, most_bundle, takes_job, told_of, told_with_room, text_with_job, text_with_refused, text_with_told};
 ghost use Rattle.uu_bundle.specs.Texts.{end_text, job_words, line_text, record_text};
 ghost use Rattle.uu_bundle.specs.declared.bundle.Record.TheVariants.{Has};
 
@@ -13,18 +13,18 @@ use uu_core::{JobHead, Kind, Mark, Refusal, Taken};
 use uu_names::{Grade, SiteName, Word};
 
 /// The most bytes of a bundle that is written (this project's choice).
-pub const MAX_BUNDLE: usize = 4_194_304;
+pub const MAX_BUNDLE: u32 = 4_194_304;
 
-/// The most bytes of the first line and of the taken jobs, in a bundle that doesn't answer another
-/// (this project's choice).
-pub const MAX_TOLD: usize = 2_097_152;
+/// The most bytes of the first line and of the taken jobs, in a bundle that doesn't answer another:
+/// half of a bundle (this project's choice).
+pub const MAX_TOLD: u32 = 2_097_152;
 
 /// The last line.
 const END: &[u8] = b"end\n";
 
 /// The beginning of a bundle that the first site sends to the second: its first line, and jobs of
-/// the second that the first has taken. It has as many of these, from the first on, as fit in half
-/// of a bundle.
+/// the second that the first has taken. It has the first of these, and from there on as many as fit
+/// in half of a bundle that has this many bytes at most.
 pub fn begin_bundle(
     alloc: Global,
     from: &SiteName,
@@ -33,11 +33,12 @@ pub fn begin_bundle(
     below: u32,
     grade: Grade,
     has: &[Taken],
+    most: u32,
 ) -> Result<Vec<u8>, AllocError>
-    ensures { IfOk result (λ text. text.items ≡ front_text (record { from = from.now; to = to.now; spool = spool.now; below = below; grade = grade }) has.now) }
+    ensures { IfOk result (λ text. text.items ≡ front_text most (record { from = from.now; to = to.now; spool = spool.now; below = below; grade = grade }) has.now) }
 {
     let mut text = heading_text(alloc, from, to, spool, below, grade)?;
-    append_first_told(alloc, &mut text, has)?;
+    append_first_told(alloc, &mut text, has, most)?;
     Ok(text)
 }
 
@@ -69,16 +70,24 @@ fn append_all_told(alloc: Global, text: &mut Vec<u8>, has: &[Taken]) -> Result<(
     Ok(())
 }
 
-// Appends as many of them, from the first on, as fit in half of a bundle.
-fn append_first_told(alloc: Global, text: &mut Vec<u8>, has: &[Taken]) -> Result<(), AllocError>
-    ensures { OnOk result (text.new.items ≡ text_with_told text.old.items (told_with_room text.old.items has.now)) }
+// Appends the first of them, if it fits in half of the longest bundle, and from there on as many as
+// fit in half of a bundle of this many bytes.
+fn append_first_told(
+    alloc: Global,
+    text: &mut Vec<u8>,
+    has: &[Taken],
+    most: u32,
+) -> Result<(), AllocError>
+    ensures { OnOk result (text.new.items ≡ text_with_told text.old.items (told_with_room (half most_bundle) (half most) text.old.items has.now)) }
 {
+    let mut room = MAX_TOLD as usize;
     for taken in has {
         let line = told_line(alloc, taken)?;
-        if text.len() > MAX_TOLD || text.len() + line.len() > MAX_TOLD {
+        if text.len() > room || text.len() + line.len() > room {
             return Ok(());
         }
         text.extend_from_slice(&line)?;
+        room = (most / 2) as usize;
     }
     Ok(())
 }
@@ -154,8 +163,8 @@ fn job_line(alloc: Global, head: &JobHead, mark: &Mark, size: usize) -> Result<V
 }
 
 /// Adds a job that waits for the second site, with its bytes, and returns true. It adds nothing and
-/// returns false if there is no room for the job and the last line, or if the job's number,
-/// arguments or size exceed a spool's limits.
+/// returns false if the bundle would have more than this many bytes with the job and the last line,
+/// or if the job's number, arguments or size exceed a spool's limits.
 pub fn add_job(
     alloc: Global,
     from: &SiteName,
@@ -163,15 +172,16 @@ pub fn add_job(
     spool: &Word,
     head: &JobHead,
     bytes: &[u8],
+    most: u32,
     text: &mut Vec<u8>,
 ) -> Result<bool, AllocError>
-    ensures added { IfOk result (λ added. added ≡ takes_job text.old.items (parcel_of from.now to.now spool.now head.now bytes.now)) }
-    ensures text { OnOk result (text.new.items ≡ text_with_job text.old.items (parcel_of from.now to.now spool.now head.now bytes.now)) }
+    ensures added { IfOk result (λ added. added ≡ takes_job most text.old.items (parcel_of from.now to.now spool.now head.now bytes.now)) }
+    ensures text { OnOk result (text.new.items ≡ text_with_job most text.old.items (parcel_of from.now to.now spool.now head.now bytes.now)) }
 {
     if !is_within_limits(head, bytes) {
         return Ok(false);
     }
-    if text.len() > MAX_BUNDLE {
+    if text.len() > most as usize {
         return Ok(false);
     }
     let mark = parcel_mark(
@@ -185,7 +195,7 @@ pub fn add_job(
         bytes,
     )?;
     let line = job_line(alloc, head, &mark, bytes.len())?;
-    if text.len() + line.len() + bytes.len() + 1 + END.len() > MAX_BUNDLE {
+    if text.len() + line.len() + bytes.len() + 1 + END.len() > most as usize {
         return Ok(false);
     }
     text.extend_from_slice(&line)?;

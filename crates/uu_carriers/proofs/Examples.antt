@@ -69,8 +69,8 @@ asks : (line : ServedLine) (what : Task) → Mean line what → asks_for_bundle 
 asks line what mean asked it means = subst (λ t. asks_for_bundle t ≡ true) (sym (mean it means)) asked
 
 module _ (pack unpack_part unpack_all unpack_again answer settle : ServedLine)
-    (packs : Mean pack (task.Pack (codes "duke") 61 None None false)) (unpacks_part : Mean unpack_part (task.Unpack (codes "mysite") [])) (unpacks_all : Mean unpack_all (task.Unpack (codes "mysite") []))
-    (unpacks_again : Mean unpack_again (task.Unpack (codes "mysite") [])) (answers : Mean answer (task.Answer (codes "mysite") [] 61 None None false)) (settles : Mean settle (task.Settle (codes "duke") None))
+    (packs : Mean pack (task.Pack (codes "duke") 61 None None None false)) (unpacks_part : Mean unpack_part (task.Unpack (codes "mysite") [])) (unpacks_all : Mean unpack_all (task.Unpack (codes "mysite") []))
+    (unpacks_again : Mean unpack_again (task.Unpack (codes "mysite") [])) (answers : Mean answer (task.Answer (codes "mysite") [] 61 None None None false)) (settles : Mean settle (task.Settle (codes "duke") None))
     (cut : List ℕ) (part : unpack_part.input ++ cut ≡ pack.output) (all : unpack_all.input ≡ pack.output) (again : unpack_again.input ≡ pack.output) (back : settle.input ≡ answer.output)
   where
     abbrev steps : List Step
@@ -89,20 +89,20 @@ module _ (pack unpack_part unpack_all unpack_again answer settle : ServedLine)
     is_whole line input same = append-nil input ∙ same
 
     packed : (lines : List ServedLine) (input rest : List ℕ) → Contains lines pack → input ++ rest ≡ pack.output → IsReadAsOne HaveSameJobs lines input
-    packed lines input rest there is = as_it_is HaveSameJobs same_jobs lines input (pack, there, asks pack (task.Pack (codes "duke") 61 None None false) packs refl, rest, is)
+    packed lines input rest there is = as_it_is HaveSameJobs same_jobs lines input (pack, there, asks pack (task.Pack (codes "duke") 61 None None None false) packs refl, rest, is)
 
     answered : IsReadAsOne HaveSameTold (pack ∷ unpack_part ∷ unpack_all ∷ answer ∷ []) settle.input
-    answered = as_it_is HaveSameTold same_told (pack ∷ unpack_part ∷ unpack_all ∷ answer ∷ []) settle.input (answer, (3, omega arith, refl), asks answer (task.Answer (codes "mysite") [] 61 None None false) answers refl, [], is_whole answer settle.input back)
+    answered = as_it_is HaveSameTold same_told (pack ∷ unpack_part ∷ unpack_all ∷ answer ∷ []) settle.input (answer, (3, omega arith, refl), asks answer (task.Answer (codes "mysite") [] 61 None None None false) answers refl, [], is_whole answer settle.input back)
 
     they_may : GoInLines places [] steps
     they_may = (
-      served pack (task.Pack (codes "duke") 61 None None false) [] 0 packs refl,
+      served pack (task.Pack (codes "duke") 61 None None None false) [] 0 packs refl,
       (
         served unpack_part (task.Unpack (codes "mysite") []) (pack ∷ []) 1 unpacks_part (packed (pack ∷ []) unpack_part.input cut (0, omega arith, refl) part),
         (
           served unpack_all (task.Unpack (codes "mysite") []) (pack ∷ unpack_part ∷ []) 1 unpacks_all (packed (pack ∷ unpack_part ∷ []) unpack_all.input [] (0, omega arith, refl) (is_whole pack unpack_all.input all)),
           (
-            served answer (task.Answer (codes "mysite") [] 61 None None false) (pack ∷ unpack_part ∷ unpack_all ∷ []) 1 answers refl,
+            served answer (task.Answer (codes "mysite") [] 61 None None None false) (pack ∷ unpack_part ∷ unpack_all ∷ []) 1 answers refl,
             (
               served settle (task.Settle (codes "duke") None) (pack ∷ unpack_part ∷ unpack_all ∷ answer ∷ []) 0 settles answered,
               (
@@ -148,5 +148,5 @@ dropped : (input : List ℕ) → MayBeTyped places [] 1 input (task.Drop (codes 
 dropped input may = may (0, refl, refl)
 
 -- a bundle that gives another word
-another_word : (input : List ℕ) → MayBeTyped places [] 0 input (task.Pack (codes "duke") 61 (Some (codes "b")) None false) → ⊥
+another_word : (input : List ℕ) → MayBeTyped places [] 0 input (task.Pack (codes "duke") 61 (Some (codes "b")) None None false) → ⊥
 another_word input may = cc

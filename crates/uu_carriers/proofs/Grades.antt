@@ -3,7 +3,7 @@ use Rattle.std.proofs.Common.{◌≡◌, ◌<◌, ℕ, Bool, true, false, cond, 
 use Rattle.std.specs.Prelude.{⊤, ◌==◌, ok_or}
 use Rattle.std.specs.List.{list_all}
 use Rattle.std.proofs.lemmas.List.Quantifiers.{position-Some}
-use Rattle.clap.specs.Words.{Row, Text, first_of, subcommand_of}
+use Rattle.clap.specs.Words.{Row, Text, first_of, subcommand_of, matches_of}
 use Rattle.uu_names.specs.Grade.{grade_bytes, grade_count, rank_of}
 use Rattle.uu_names.specs.Path.{first_hop}
 use Rattle.uu_names.specs.declared.fault.NameFault.TheVariants.{BadGrade}
@@ -18,8 +18,8 @@ use Rattle.uu_line.specs.declared.task.Task.TheVariants as task
 
 -- the grade of a requested bundle is a grade
 abbrev pub HasGrade : Task → Type 0
-HasGrade (task.Pack system grade spool after no_jobs) = grade < grade_count
-HasGrade (task.Answer sender onward grade spool after no_jobs) = grade < grade_count
+HasGrade (task.Pack system grade spool after most no_jobs) = grade < grade_count
+HasGrade (task.Answer sender onward grade spool after most no_jobs) = grade < grade_count
 HasGrade other = ⊤
 
 abbrev Sound : Result Task LineFault → Type 0
@@ -76,19 +76,22 @@ module _ (name : Text) (rows : List Row) (meant : Result Task LineFault) where
   sound_task (inr (inr (inr (inr (inr (inr (inr (inr (inr (inr (inr (inr (inr (inr (inr (inr (inl (n_is, (t, i, (a, j, e)))))))))))))))))))) = subst Sound (sym e) (by_then (site_of t) (λ v0. and_then (word_of a) (λ v1. Ok (task.Failed v0 v1))) (λ v0 e0. by_then (word_of a) (λ v1. Ok (task.Failed v0 v1)) (λ v1 e1. tt)))
   sound_task (inr (inr (inr (inr (inr (inr (inr (inr (inr (inr (inr (inr (inr (inr (inr (inr (inr (inl (n_is, (t, i, (n, d, e))))))))))))))))))))) = subst Sound (sym e) (by_then (site_of t) (λ v0. Ok (task.Done v0 n)) (λ v0 e0. tt))
   sound_task (inr (inr (inr (inr (inr (inr (inr (inr (inr (inr (inr (inr (inr (inr (inr (inr (inr (inr (inl (n_is, (t, i, (a, j, (n, d, e))))))))))))))))))))))) = subst Sound (sym e) (by_then (site_of t) (λ v0. Ok (task.Forget v0 n)) (λ v0 e0. tt))
-  sound_task (inr (inr (inr (inr (inr (inr (inr (inr (inr (inr (inr (inr (inr (inr (inr (inr (inr (inr (inr (inl (n_is, (t, i, (g, j, (n, d, e)))))))))))))))))))))))) = subst Sound (sym e) (by_then (site_of t) (λ v0. and_then (grade_of g) (λ v1. and_then (optional word_of (first_of (codes "spool") rows)) (λ v2. Ok (task.Pack v0 v1 v2 n (has_flag (codes "no-jobs") rows))))) (λ v0 e0. by_then (grade_of g) (λ v1. and_then (optional word_of (first_of (codes "spool") rows)) (λ v2. Ok (task.Pack v0 v1 v2 n (has_flag (codes "no-jobs") rows)))) (λ v1 e1. by_then (optional word_of (first_of (codes "spool") rows)) (λ v2. Ok (task.Pack v0 v1 v2 n (has_flag (codes "no-jobs") rows))) (λ v2 e2. grade_below g v1 e1))))
+  sound_task (inr (inr (inr (inr (inr (inr (inr (inr (inr (inr (inr (inr (inr (inr (inr (inr (inr (inr (inr (inl (n_is, (t, i, (g, j, (n, d, m, f, e)))))))))))))))))))))))) = subst Sound (sym e) (by_then (site_of t) (λ v0. and_then (grade_of g) (λ v1. and_then (optional word_of (first_of (codes "spool") rows)) (λ v2. Ok (task.Pack v0 v1 v2 n m (has_flag (codes "no-jobs") rows))))) (λ v0 e0. by_then (grade_of g) (λ v1. and_then (optional word_of (first_of (codes "spool") rows)) (λ v2. Ok (task.Pack v0 v1 v2 n m (has_flag (codes "no-jobs") rows)))) (λ v1 e1. by_then (optional word_of (first_of (codes "spool") rows)) (λ v2. Ok (task.Pack v0 v1 v2 n m (has_flag (codes "no-jobs") rows))) (λ v2 e2. grade_below g v1 e1))))
   sound_task (inr (inr (inr (inr (inr (inr (inr (inr (inr (inr (inr (inr (inr (inr (inr (inr (inr (inr (inr (inr (inl (n_is, (t, i, e))))))))))))))))))))))) = subst Sound (sym e) (by_then (site_of t) (λ v0. and_then (sites_of (texts_at (codes "system") rows)) (λ v1. Ok (task.Unpack v0 v1))) (λ v0 e0. by_then (sites_of (texts_at (codes "system") rows)) (λ v1. Ok (task.Unpack v0 v1)) (λ v1 e1. tt)))
   sound_task (inr (inr (inr (inr (inr (inr (inr (inr (inr (inr (inr (inr (inr (inr (inr (inr (inr (inr (inr (inr (inr (inl (n_is, (t, i, e)))))))))))))))))))))))) = subst Sound (sym e) (by_then (site_of t) (λ v0. and_then (optional word_of (first_of (codes "spool") rows)) (λ v1. Ok (task.Settle v0 v1))) (λ v0 e0. by_then (optional word_of (first_of (codes "spool") rows)) (λ v1. Ok (task.Settle v0 v1)) (λ v1 e1. tt)))
-  sound_task (inr (inr (inr (inr (inr (inr (inr (inr (inr (inr (inr (inr (inr (inr (inr (inr (inr (inr (inr (inr (inr (inr (inl (n_is, (t, i, (g, j, (n, d, e))))))))))))))))))))))))))) = subst Sound (sym e) (by_then (site_of t) (λ v0. and_then (sites_of (texts_at (codes "system") rows)) (λ v1. and_then (grade_of g) (λ v2. and_then (optional word_of (first_of (codes "spool") rows)) (λ v3. Ok (task.Answer v0 v1 v2 v3 n (has_flag (codes "no-jobs") rows)))))) (λ v0 e0. by_then (sites_of (texts_at (codes "system") rows)) (λ v1. and_then (grade_of g) (λ v2. and_then (optional word_of (first_of (codes "spool") rows)) (λ v3. Ok (task.Answer v0 v1 v2 v3 n (has_flag (codes "no-jobs") rows))))) (λ v1 e1. by_then (grade_of g) (λ v2. and_then (optional word_of (first_of (codes "spool") rows)) (λ v3. Ok (task.Answer v0 v1 v2 v3 n (has_flag (codes "no-jobs") rows)))) (λ v2 e2. by_then (optional word_of (first_of (codes "spool") rows)) (λ v3. Ok (task.Answer v0 v1 v2 v3 n (has_flag (codes "no-jobs") rows))) (λ v3 e3. grade_below g v2 e2)))))
+  sound_task (inr (inr (inr (inr (inr (inr (inr (inr (inr (inr (inr (inr (inr (inr (inr (inr (inr (inr (inr (inr (inr (inr (inl (n_is, (t, i, (g, j, (n, d, m, f, e))))))))))))))))))))))))))) = subst Sound (sym e) (by_then (site_of t) (λ v0. and_then (sites_of (texts_at (codes "system") rows)) (λ v1. and_then (grade_of g) (λ v2. and_then (optional word_of (first_of (codes "spool") rows)) (λ v3. Ok (task.Answer v0 v1 v2 v3 n m (has_flag (codes "no-jobs") rows)))))) (λ v0 e0. by_then (sites_of (texts_at (codes "system") rows)) (λ v1. and_then (grade_of g) (λ v2. and_then (optional word_of (first_of (codes "spool") rows)) (λ v3. Ok (task.Answer v0 v1 v2 v3 n m (has_flag (codes "no-jobs") rows))))) (λ v1 e1. by_then (grade_of g) (λ v2. and_then (optional word_of (first_of (codes "spool") rows)) (λ v3. Ok (task.Answer v0 v1 v2 v3 n m (has_flag (codes "no-jobs") rows)))) (λ v2 e2. by_then (optional word_of (first_of (codes "spool") rows)) (λ v3. Ok (task.Answer v0 v1 v2 v3 n m (has_flag (codes "no-jobs") rows))) (λ v3 e3. grade_below g v2 e2)))))
   sound_task (inr (inr (inr (inr (inr (inr (inr (inr (inr (inr (inr (inr (inr (inr (inr (inr (inr (inr (inr (inr (inr (inr (inr (inl (n_is, e))))))))))))))))))))))))) = subst Sound (sym e) tt
   sound_task (inr (inr (inr (inr (inr (inr (inr (inr (inr (inr (inr (inr (inr (inr (inr (inr (inr (inr (inr (inr (inr (inr (inr (inr (inl (n_is, (t, i, e))))))))))))))))))))))))))) = subst Sound (sym e) (by_then (site_of t) (λ v0. Ok (task.Neighbours v0)) (λ v0 e0. tt))
-  sound_task (inr (inr (inr (inr (inr (inr (inr (inr (inr (inr (inr (inr (inr (inr (inr (inr (inr (inr (inr (inr (inr (inr (inr (inr (inr ((n_is, e))))))))))))))))))))))))))) = subst Sound (sym e) tt
+  sound_task (inr (inr (inr (inr (inr (inr (inr (inr (inr (inr (inr (inr (inr (inr (inr (inr (inr (inr (inr (inr (inr (inr (inr (inr (inr (inl ((n_is, e)))))))))))))))))))))))))))) = subst Sound (sym e) tt
+  sound_task (inr (inr (inr (inr (inr (inr (inr (inr (inr (inr (inr (inr (inr (inr (inr (inr (inr (inr (inr (inr (inr (inr (inr (inr (inr (inr (inl ((n_is, (t, i, e)))))))))))))))))))))))))))))) = subst Sound (sym e) (by_then (site_of t) (λ v0. Ok (task.Routes (Some v0) (has_flag (codes "cost") rows))) (λ v0 e0. tt))
+  sound_task (inr (inr (inr (inr (inr (inr (inr (inr (inr (inr (inr (inr (inr (inr (inr (inr (inr (inr (inr (inr (inr (inr (inr (inr (inr (inr (inr (inl (n_is, e))))))))))))))))))))))))))))) = subst Sound (sym e) tt
+  sound_task (inr (inr (inr (inr (inr (inr (inr (inr (inr (inr (inr (inr (inr (inr (inr (inr (inr (inr (inr (inr (inr (inr (inr (inr (inr (inr (inr (inr (n_is, e))))))))))))))))))))))))))))) = subst Sound (sym e) tt
 
 entered_sound : (entered : Option (Text × List Row)) (meant : Result Task LineFault) → MeansEntered entered meant → Sound meant
 entered_sound None meant none = absurd none
 entered_sound (Some subcommand) meant means = sound_task subcommand.0 subcommand.1 meant means
 
-line_sound : (config : Text) (at : Option ℕ) (user : Result (List ℕ) LineFault) (entered : Option (Text × List Row)) (it : CommandLine) → MeansLineOf config at user entered (Ok (line_view it)) → HasGrade it.task
+line_sound : (config : Option Text) (at : Option ℕ) (user : Result (List ℕ) LineFault) (entered : Option (Text × List Row)) (it : CommandLine) → MeansLineOf config at user entered (Ok (line_view it)) → HasGrade it.task
 line_sound config at (Err why) entered it e = absurd (cc)
 line_sound config at (Ok user) entered it (Err why, means, e) = absurd (cc)
 line_sound config at (Ok user) entered it (Ok what, means, e) =
@@ -96,4 +99,4 @@ line_sound config at (Ok user) entered it (Ok what, means, e) =
     subst HasGrade (sym (ap (λ (line : SaidLine). line.task) same)) (entered_sound entered (Ok what) means)
 
 pub has_grade : (words : List Text) (it : CommandLine) → MeansLine words it → HasGrade it.task
-has_grade words it (taken, (config, config_is, (user, user_is, (at, at_is, of)))) = line_sound config at (word_of user) (subcommand_of program words) it of
+has_grade words it (taken, (user, user_is, (at, at_is, of))) = line_sound (first_of (codes "config") (matches_of program words)) at (word_of user) (subcommand_of program words) it of

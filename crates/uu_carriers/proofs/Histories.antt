@@ -17,6 +17,7 @@ use Rattle.uu_line.specs.declared.task.Task.{Task}
 use Rattle.uu_line.specs.declared.task.Task.TheVariants as task
 use Rattle.uu_settings.specs.declared.settings.Settings.{Settings}
 use Rattle.uu_request.specs.Carried.{packed_job as as_packed, said_of}
+use Rattle.uu_request.specs.Neighbours.{neighbour_of, wrong_neighbour}
 use Rattle.uu_request.specs.Requests.{TaskAsks}
 use Rattle.uu_request.specs.Unpacking.{IsBundleBetween, answer, made_of, packing, queue_once_command}
 use Rattle.uu_request.specs.declared.fault.RequestFault.{RequestFault}
@@ -31,7 +32,7 @@ use Rattle.uuspool.specs.Served.{AreCommandsOf, WordsAsk}
 use Rattle.uuspool.specs.ServedLines.{AreLeft, AreTold, ServedRequest, IsTold, ServedLine, commands_asked, goes_on}
 use Rattle.uu_carriers.specs.Texts.{Places, MayBeLine, IsBrought, TextLine, unpack, settle, other, IsOfLine}
 use Rattle.uu_carriers.specs.Lines.{AskForBundle, MayBeServed, MayBeTyped, asks_for_bundle}
-use Rattle.uu_carriers.proofs.Words.{granted, HasNoBundle, StandsFor, Covers, none_of_nothing, of_task}
+use Rattle.uu_carriers.proofs.Words.{asked_of_task, granted, HasNoBundle, StandsFor, Covers, none_of_nothing, of_task}
 use Rattle.uu_carriers.proofs.Printed.{MayPack, MayAnswer, IsSpoken, IsSpokenOrNone, packed_spoken, answered_spoken, told_spoken, make_of, of_jobs, of_texts}
 use Rattle.uu_carriers.proofs.Grades.{HasGrade, has_grade}
 use Rattle.uu_carriers.proofs.Runs.{heard, unheard, beyond, beyond_is, all_heard, heard_or_none, none_beyond, in_unheard, RunData, before_them, exchange_then}
@@ -127,7 +128,7 @@ module _ (places : Places) (may_pack : MayPack) (may_answer : MayAnswer) (site :
         → IsTold settings s asked replies line.output line.result → Prints commands
     printed lines asked commands replies may asks are told = elim asks.request [
       | inl too ↦ absurd (let never = too.1 in cc)
-      | inr it ↦ by_task asks.line.task refl (may asks.line asks.means) it.1
+      | inr it ↦ by_task asks.line.task refl (may asks.line asks.means) (asked_of_task settings asks.at line.input asks.line.user asks.line.task (wrong_neighbour settings (neighbour_of asks.line.task)) asked it.1)
     ]
       where
         not_asked : (what : Task) → asks.line.task ≡ what → asks_for_bundle what ≡ false → Prints commands
@@ -141,10 +142,10 @@ module _ (places : Places) (may_pack : MayPack) (may_answer : MayAnswer) (site :
             (of_jobs settings asks.at p.system onward bundle.jobs) (of_texts line.input bundle is.0) answers) told
 
         by_task : (what : Task) → asks.line.task ≡ what → MayBeTyped places lines site line.input what → TaskAsks settings asks.at line.input asks.line.user what (Ok asked) → Prints commands
-        by_task (task.Pack system grade spool after no_jobs) e may is =
-            of_question asked commands replies (question.Pack (packing system grade spool after no_jobs)) is are
-            (λ whole status answers. packed_spoken may_pack may_answer settings (places.name site) (places.word site) own is_own is_spool s good (packing system grade spool after no_jobs) whole status may (subst HasGrade e (has_grade line.words asks.line asks.means)) answers) told
-        by_task (task.Answer sender onward grade spool after no_jobs) e may (said, is, same) = by-answer onward (packing sender grade spool after no_jobs) said may (subst HasGrade e (has_grade line.words asks.line asks.means)) is same
+        by_task (task.Pack system grade spool after most no_jobs) e may is =
+            of_question asked commands replies (question.Pack (packing system grade spool after most no_jobs)) is are
+            (λ whole status answers. packed_spoken may_pack may_answer settings (places.name site) (places.word site) own is_own is_spool s good (packing system grade spool after most no_jobs) whole status may (subst HasGrade e (has_grade line.words asks.line asks.means)) answers) told
+        by_task (task.Answer sender onward grade spool after most no_jobs) e may (said, is, same) = by-answer onward (packing sender grade spool after most no_jobs) said may (subst HasGrade e (has_grade line.words asks.line asks.means)) is same
         by_task what e may is = not_asked what e refl
 
   -- ---- the next line
@@ -207,7 +208,8 @@ module _ (places : Places) (may_pack : MayPack) (may_answer : MayAnswer) (site :
         of-line command there = elim it.told.0.asks.request [
           | inl too ↦ absurd (let never = too.1 in cc)
           | inr asks ↦ of_task places packed lines covers site settings it.own it.told.0.asks.at line.input it.told.0.asks.line.user given.request given.commands it.told.0.are command there it.told.0.asks.line.task
-              (may it.told.0.asks.line it.told.0.asks.means) asks.1
+              (may it.told.0.asks.line it.told.0.asks.means)
+              (asked_of_task settings it.told.0.asks.at line.input it.told.0.asks.line.user it.told.0.asks.line.task (wrong_neighbour settings (neighbour_of it.told.0.asks.line.task)) given.request asks.1)
         ]
 
         still_now : ((state_after it.from given.commands ≡ then_of.state) × (then_of.pending ≡ [])) ⊎ ((then_of.replies ≡ []) × AreLeft behind)

@@ -8,3 +8,4 @@ mod Going
 mod Opened
 mod Together
 mod Examples
+mod Sealing

@@ -20,8 +20,9 @@ use Rattle.uu_line.specs.declared.task.Task.{Task}
 use Rattle.uu_line.specs.declared.task.Task.TheVariants as task
 use Rattle.uu_settings.specs.declared.settings.Settings.{Settings}
 use Rattle.uu_request.specs.Marks.{key_of}
-use Rattle.uu_request.specs.Requests.{TaskAsks, bytes_at, entries, queue_command, load_request, one}
+use Rattle.uu_request.specs.Requests.{TaskAsks, TaskAsksOf, bytes_at, entries, queue_command, load_request, one}
 use Rattle.uu_request.specs.Unpacking.{AsksOf, IsBundleBetween, answer, offered, packing, spool_of, wrong_sites}
+use Rattle.uu_request.specs.declared.fault.WrongBundle.{WrongBundle}
 use Rattle.uu_request.specs.declared.fault.WrongBundle.TheVariants.{OtherSender, OtherSite}
 use Rattle.uu_core.specs.declared.subject.Subject.TheVariants as subject
 use Rattle.uu_bundle.specs.declared.bundle.Parcel.{Parcel}
@@ -106,6 +107,13 @@ by_list : (asked : Request) (list : CommandList) (command : Command) (commands :
 by_list asked list command commands same are there =
     let is : asked ≡ request.Commands list = cc in
     subst (λ l. Contains l command) (subst (λ r. AreCommandsOf r commands) is are) there
+
+-- what was asked of the spool is what the task asks, so its neighbour isn't a wrong one
+pub asked_of_task : (settings : Settings) (at : Moment) (input user : List ℕ) (what : Task) (why : Option WrongBundle) (asked : Request)
+    → (let answer : Result Request RequestFault = Ok asked in TaskAsksOf settings at input user what why answer)
+    → (let answer : Result Request RequestFault = Ok asked in TaskAsks settings at input user what answer)
+asked_of_task settings at input user what None asked is = is
+asked_of_task settings at input user what (Some why) asked is = absurd (cc)
 
 module _ (places : Places) (packed : List Bundle) (lines : List ServedLine) (covers : Covers packed lines) (site : ℕ) (settings : Settings) (own : settings.name ≡ places.name site) (at : Moment) (input user : List ℕ) where
   abbrev Of : Command → Type 0
@@ -213,8 +221,8 @@ module _ (places : Places) (packed : List Bundle) (lines : List ServedLine) (cov
     pub of_task : (what : Task) → MayBeTyped places lines site input what → TaskAsks settings at input user what (Ok asked) → Of given
     of_task (task.Unpack from onward) may asks = of_unpack from onward asked commands given may asks are there
     of_task (task.Settle from spool) may asks = of_settle from spool asked commands given may asks are there
-    of_task (task.Answer from onward grade spool after no_jobs) may asks =
-        of_answer from (answer settings at onward (packing from grade spool after no_jobs)) asked commands given (λ bundle. (_, refl)) asks are there
+    of_task (task.Answer from onward grade spool after most no_jobs) may asks =
+        of_answer from (answer settings at onward (packing from grade spool after most no_jobs)) asked commands given (λ bundle. (_, refl)) asks are there
     of_task task.Load may asks = of_load (sys_file_of input) asks
     of_task (task.Drop system) may asks = of_one (command.Remove system) asks (beside (command.Remove system) (λ line. (λ b. tt, λ e same. may (line, e, sym same))))
     of_task (task.Send system source target grade once) may asks = of_one _ asks (of_hand_in once _ _ may)
@@ -227,7 +235,7 @@ module _ (places : Places) (packed : List Bundle) (lines : List ServedLine) (cov
     of_task (task.Failed system why) may asks = of_one _ asks (beside _ (λ line. (λ b. tt, λ e. tt)))
     of_task (task.Done system jobs) may asks = of_one (command.Done system at jobs) asks (beside (command.Done system at jobs) (λ line. (λ b same. may (line, b, sym same), λ e. tt)))
     of_task (task.Forget system below) may asks = of_one (command.Forget system below) asks (beside (command.Forget system below) (λ line. (λ b. tt, λ e same. may (line, e, sym same))))
-    of_task (task.Pack system grade spool after no_jobs) may asks = of_none _ asks
+    of_task (task.Pack system grade spool after most no_jobs) may asks = of_none _ asks
     of_task (task.List filter) may asks = of_none _ asks
     of_task (task.Show job) may asks = of_none _ asks
     of_task (task.Due system) may asks = of_none _ asks
@@ -239,3 +247,4 @@ module _ (places : Places) (packed : List Bundle) (lines : List ServedLine) (cov
     of_task task.Map may asks = of_map asks
     of_task (task.Neighbours host) may asks = of_none _ asks
     of_task task.Name may asks = of_none _ asks
+    of_task (task.Routes host costs) may asks = of_none _ asks

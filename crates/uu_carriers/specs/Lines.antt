@@ -60,8 +60,8 @@ AreWithin count (ends site ∷ steps) = (site < count) × AreWithin count steps
 
 -- the words ask for a bundle: any task that they mean is `pack` or `answer`
 abbrev pub asks_for_bundle : Task → Bool
-asks_for_bundle (task.Pack system grade spool after no_jobs) = true
-asks_for_bundle (task.Answer sender onward grade spool after no_jobs) = true
+asks_for_bundle (task.Pack system grade spool after most no_jobs) = true
+asks_for_bundle (task.Answer sender onward grade spool after most no_jobs) = true
 asks_for_bundle other = false
 
 abbrev pub AskForBundle : ServedLine → Type 0
@@ -109,8 +109,8 @@ IsOfNoNeighbour places site (Some origin) = ¬ HandsOnTo places site origin.from
 abbrev pub MayBeTyped : Places → List ServedLine → ℕ → List ℕ → Task → Type 0
 MayBeTyped places before site input (task.Unpack sender onward) = IsReadAsOne HaveSameJobs before input
 MayBeTyped places before site input (task.Settle system spool) = IsReadAsOne HaveSameTold before input
-MayBeTyped places before site input (task.Pack system grade spool after no_jobs) = spool_of spool ≡ places.word site
-MayBeTyped places before site input (task.Answer sender onward grade spool after no_jobs) = spool_of spool ≡ places.word site
+MayBeTyped places before site input (task.Pack system grade spool after most no_jobs) = spool_of spool ≡ places.word site
+MayBeTyped places before site input (task.Answer sender onward grade spool after most no_jobs) = spool_of spool ≡ places.word site
 MayBeTyped places before site input (task.Done system jobs) = TakesFrom places site system → jobs ≡ []
 MayBeTyped places before site input (task.Drop system) = ¬ HandsOnTo places site system
 MayBeTyped places before site input (task.Forget system below) = ¬ HandsOnTo places site system

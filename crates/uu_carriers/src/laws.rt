@@ -41,6 +41,7 @@ ghost use Rattle.uuspool.specs.Answers.{IsAnswer};
 ghost use Rattle.uuspool.specs.ServedLines.{AreServed, ServedLine};
 ghost use Rattle.uu_custody.specs.AmongSites.{AreAmong, GoAround, GoOn, IsInFiles, AllCameInBundles};
 ghost use Rattle.uu_carriers.specs.Texts.{Places, chart_of, AreApart, Act, deed_of, GoInTexts};
+ghost use Rattle.uu_carriers.specs.Sealed.{GoInSealedLines};
 ghost use Rattle.uu_carriers.specs.Lines.{Step, runs_at, AreWithin, GoInLines, AreSites, EndsSo, HappenedOver, ComeOnceInFiles};
 
 use sqlite::FileStore;
@@ -49,6 +50,7 @@ use uu_bundle::laws::{a_text_has_one_bundle, written_bundles_are_read};
 use uu_core::laws::runs_follow_one_another;
 use uu_custody::laws::{Sites, messages_come_once_in_bundles};
 use uu_request::laws::{what_is_brought_is_unpacked, what_is_brought_settles};
+use uu_seal::laws::opened_texts_were_sealed;
 use uu_store::laws::{calls_make_a_stretch, one_database_has_one_state, stretches_make_a_history};
 use uuspool::laws::{lines_are_one_run, what_is_answered_may_be_said, what_is_packed_may_be_said};
 
@@ -95,6 +97,20 @@ pub fn messages_come_once_in_lines<H: Sites>()
     what_is_packed_may_be_said();
     what_is_answered_may_be_said();
     messages_come_once_in_texts::<H>();
+}
+
+/// The same if carriers seal what they move (`uu_seal`). Then of what comes over the wire nothing is
+/// assumed but this: whoever has a key seals only what `pack` or `answer` printed, whoever hasn't
+/// makes no right tag, and no two different texts that were tagged have the same tag
+/// (`IsOpenedAsOne`). So nobody without a key has a text of theirs taken, and no damage of a text is.
+pub fn messages_come_once_in_sealed_lines<H: Sites>()
+    ensures { (places : Places) (count : ℕ) (first : ℕ → State) (steps : List Step) (lines : List ℕ)
+        → AreSites places count → AreAmong (chart_of places) count first lines → AreWithin count steps → GoInSealedLines places [] steps
+        → ((site : ℕ) → site < count → HappenedOver (places.name site) (first site) (H.before site) (H.stretches site) (runs_at site steps))
+        → ∥ ComeOnceInFiles (chart_of places) count first H.stretches (λ site. last_left (H.before site) (H.stretches site)) lines ∥₁ }
+{
+    opened_texts_were_sealed();
+    messages_come_once_in_lines::<H>();
 }
 
 /// A spool in files served lines, from an opening until its store was let go or its files were

@@ -9,7 +9,7 @@ use Rattle.uu_core.specs.declared.command.Command.{Command}
 use Rattle.uu_core.specs.State.{State, Job}
 use Rattle.uu_core.specs.After.{after}
 use Rattle.uu_core.specs.Run.{state_after}
-use Rattle.uu_handover.specs.Custody.{Crossing, Handed, IsHandedFor, parcel_of}
+use Rattle.uu_handover.specs.Custody.{Crossing, Handed}
 use Rattle.uu_handover.specs.Network.{Chart, IsRoute}
 use Rattle.uu_custody.specs.Handovers.{handed_of, handed_in, Waited, HasCome, IsInCustody}
 use Rattle.uu_custody.specs.Routes.{Course, ComeOnceOverAll, handed_over, IsOnItsWay, CameTo}

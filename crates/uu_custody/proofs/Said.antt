@@ -4,7 +4,6 @@ use Rattle.std.specs.Prelude.{⊤}
 use Rattle.std.specs.Cmp.Lexicographic.{bytes_decides}
 use Rattle.std.proofs.lemmas.List.Elements.{All-contains}
 use Rattle.uu_names.proofs.Basics.{first_of, later_of, first_or_later, none_in, from_map, all_from, in_map}
-use Rattle.sqlite.specs.Store.{Ghosts}
 use Rattle.sqlite.specs.Held.{state}
 use Rattle.sqlite_wal.specs.Recovery.{Image}
 use Rattle.uu_core.specs.declared.command.Command.{Command}
@@ -15,12 +14,11 @@ use Rattle.uu_handover.specs.Bundles.{Bundle, Told, Packed, packed_of, IsSaid}
 use Rattle.uu_handover.specs.Custody.{Parcel, Crossing, World, MayGo, start}
 use Rattle.uu_handover.specs.Custody.Step.{SenderShows, SenderSays, ReceiverTells}
 use Rattle.uu_store.specs.Files.{FileStretch}
-use Rattle.uu_store.specs.Stretches.{StretchOver}
 use Rattle.uu_custody.specs.Events.{Side, sender, receiver, is_at, Notice, waits, no_more, has, side_of, Event, noticed, Noted, Session, with_first, begin_answered, begin_noticed, ended, sessions_at, IsTrueOf, AreTrue}
-use Rattle.uu_custody.specs.Spools.{WereShown, WereShownInFiles}
-use Rattle.uu_custody.specs.Carried.{Deed, runs, stops, says, notices_of, events_of, Saying, after_answer, sayings_at, IsSaidBy, WereSaid, WereSaidInFiles}
+use Rattle.uu_custody.specs.Spools.{WereShownInFiles}
+use Rattle.uu_custody.specs.Carried.{Deed, runs, stops, says, notices_of, events_of, Saying, after_answer, sayings_at, IsSaidBy, WereSaidInFiles}
 use Rattle.uu_custody.specs.Carried.{with_first as with_first_said}
-use Rattle.uu_custody.proofs.Spools.{good_kept, good_stored}
+use Rattle.uu_custody.proofs.Spools.{good_kept}
 
 -- ---- the notices of a bundle
 
@@ -222,13 +220,3 @@ module _ (may_say : MaySay) (may_show : MayShow) (may_tell : MayTell) (none : Is
 
   pub were_shown : (crossing : Crossing) (site : Side) (before : Image) (deeds : List (Deed Side)) (stretches : List FileStretch) → WereSaidInFiles (own_of crossing site) before (sayings_at (is_at site) deeds) stretches → WereShownInFiles crossing before (sessions_at site (events_of crossing deeds)) stretches
   were_shown crossing site before deeds stretches were = shown_as crossing site before (sessions_at site (events_of crossing deeds)) (sayings_at (is_at site) deeds) stretches (follow crossing site deeds) were
-
-  stored_as : {S : Type 0} (g : Ghosts S) (crossing : Crossing) (site : Side) (sessions : List Session) (said : List (List Saying)) (stretches : List (StretchOver S)) → Follow crossing site sessions said → WereSaid g (own_of crossing site) said stretches → WereShown g crossing sessions stretches
-  stored_as g crossing site [] said stretches f were = tt
-  stored_as g crossing site (session ∷ sessions) [] stretches f were = absurd f
-  stored_as g crossing site (session ∷ sessions) (sayings ∷ more) [] f were = tt
-  stored_as g crossing site (session ∷ sessions) (sayings ∷ more) (it ∷ stretches) f were =
-      (λ s rests stores. all_true crossing site session.noted sayings s (good_stored none (state g it.opened).now s stores) f.0 (were.0 s rests stores), stored_as g crossing site sessions more stretches f.1 were.1)
-
-  pub were_shown_over : {S : Type 0} (g : Ghosts S) (crossing : Crossing) (site : Side) (deeds : List (Deed Side)) (stretches : List (StretchOver S)) → WereSaid g (own_of crossing site) (sayings_at (is_at site) deeds) stretches → WereShown g crossing (sessions_at site (events_of crossing deeds)) stretches
-  were_shown_over g crossing site deeds stretches were = stored_as g crossing site (sessions_at site (events_of crossing deeds)) (sayings_at (is_at site) deeds) stretches (follow crossing site deeds) were

@@ -2,9 +2,7 @@
 -- and the other takes from it what is there. A carrier may be late, bring a bundle again or bring
 -- an old one, and cut it off after its first line. (The lines are this project's choice.)
 use Rattle.std.specs.Prelude.{◌≡◌, ⊤, ℕ, Bool, List, [], ◌∷◌, ◌++◌, map, take, All, Contains, if◌then◌else◌, true}
-use Rattle.sqlite.specs.Store.{Ghosts}
 use Rattle.sqlite.specs.Held.{state}
-use Rattle.sqlite.specs.State as db
 use Rattle.sqlite_wal.specs.Recovery.{Image}
 use Rattle.uu_core.specs.declared.command.Command.{Command}
 use Rattle.uu_core.specs.declared.command.Command.TheVariants.{Remove, QueueOnce, Done, Release, Forget}
@@ -18,12 +16,7 @@ use Rattle.uu_handover.specs.Custody.{Parcel, Crossing}
 use Rattle.uu_store.specs.Exchanges.{Ending}
 use Rattle.uu_store.specs.Files.{FileStretch}
 use Rattle.uu_store.specs.Openings.{ImageKeeps}
-use Rattle.uu_store.specs.Stretches.{StretchOver}
-use Rattle.uu_store.specs.Kept.{Stores}
-use Rattle.uu_schema.specs.Steps.{Rests}
 use Rattle.uu_custody.specs.Events.{Side, sender, receiver, Notice, waits, no_more, has, Event, answered, stopped, noticed}
-use Rattle.uu_custody.specs.Handovers.{NothingIsInTheWay}
-use Rattle.uu_custody.specs.Spools.{StoreOnce, KeepOnce}
 
 -- ---- a history of two sites
 
@@ -83,13 +76,6 @@ WereSaidInFiles own before [] stretches = ⊤
 WereSaidInFiles own before (sayings ∷ more) [] = ⊤
 WereSaidInFiles own before (sayings ∷ more) (it ∷ stretches) =
     ((s : State) → ImageKeeps before s → All (λ saying. IsSaidBy own (state_after s saying.answered) saying.bundle) sayings) × WereSaidInFiles own it.left more stretches
-
--- the same over a store: with any state that is stored in the database that the stretch opened
-abbrev pub WereSaid : {S : Type 0} → Ghosts S → List ℕ → List (List Saying) → List (StretchOver S) → Type 0
-WereSaid g own [] stretches = ⊤
-WereSaid g own (sayings ∷ more) [] = ⊤
-WereSaid g own (sayings ∷ more) (it ∷ stretches) =
-    ((s : State) → Rests (state g it.opened) → Stores (state g it.opened).now s → All (λ saying. IsSaidBy own (state_after s saying.answered) saying.bundle) sayings) × WereSaid g own more stretches
 
 -- ---- what a site is given
 
@@ -171,15 +157,3 @@ IsByLines crossing bundles (says receiver bundle) = ⊤
 abbrev pub GoesByBundles : Crossing → Bundles → List (Deed Side) → Type 0
 GoesByBundles crossing bundles [] = ⊤
 GoesByBundles crossing bundles (deed ∷ deeds) = IsByLines crossing bundles deed × GoesByBundles crossing (after_deed bundles deed) deeds
-
--- ---- what follows
-
--- both databases store states by which jobs have come once, and each waiting job is free
-pub record CameInBundlesOver (crossing : Crossing) (a b : State) (deeds : List (Deed Side)) (one other : db.State) : Type 0 where
-  pub store : StoreOnce crossing a b (events_of crossing deeds) one other
-  pub free : NothingIsInTheWay crossing a store.sent b store.received
-
--- The files of both keep states by which jobs have come once, and each waiting job is free.
-pub record CameInBundles (crossing : Crossing) (a b : State) (deeds : List (Deed Side)) (one other : Image) : Type 0 where
-  pub keep : KeepOnce crossing a b (events_of crossing deeds) one other
-  pub free : NothingIsInTheWay crossing a keep.sent b keep.received

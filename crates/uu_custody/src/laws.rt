@@ -1,43 +1,25 @@
 //! What follows from the definitions.
-ghost use Rattle.std.specs.Prelude.{◌≡◌, ◌<◌, [], ◌∷◌, ℕ, List, Option};
-ghost use Rattle.sqlite.specs.Files.{over_files};
-ghost use Rattle.sqlite.specs.Held.{Held, state};
-ghost use Rattle.sqlite.specs.State.{HasCleanDisk};
-ghost use Rattle.sqlite_store.specs.declared.store.FileStore.{FileStore};
+ghost use Rattle.std.specs.Prelude.{◌≡◌, ◌<◌, [], ◌∷◌, ℕ, List};
 ghost use Rattle.sqlite_wal.specs.Recovery.{Image};
-ghost use Rattle.uu_core.specs.Run.{state_after};
-ghost use Rattle.uu_core.specs.declared.command.Reply.{Reply};
 ghost use Rattle.uu_core.specs.declared.command.Command.{Command};
 ghost use Rattle.uu_core.specs.State.{State, Job, IsWellFormed, link_of, new_link};
-ghost use Rattle.uu_handover.specs.Bundles.{Bundle};
 ghost use Rattle.uu_handover.specs.Custody.{Crossing};
 ghost use Rattle.uu_handover.specs.Network.{Chart, IsRoute};
-ghost use Rattle.uu_custody.specs.Events.{Event, Side, is_at, Notice, IsTrueOf, sender, receiver, sessions_at, exchanges_at, PassesTruly, KeepsToWire, nothing_sent, ForgetsWhatWasSaid};
+ghost use Rattle.uu_custody.specs.Events.{Event, Side, sender, receiver, sessions_at, exchanges_at, PassesTruly, KeepsToWire, nothing_sent, ForgetsWhatWasSaid};
 ghost use Rattle.uu_custody.specs.Handovers.{AreOfWorld, ComeOnce, NothingIsInTheWay, ToldAreInCustody, ToldUnderKeysAreInCustody, Waited};
 ghost use Rattle.uu_custody.specs.Sites.{AllHandOver, AllComeOnce};
-ghost use Rattle.uu_custody.specs.Spools.{IsHandover, WereShown, WereShownInFiles, StoreOnce, KeepOnce};
-ghost use Rattle.uu_schema.specs.declared.fault.StoreFault.{StoreFault};
-ghost use Rattle.uu_store.specs.declared.spool.Spool.{Spool};
-ghost use Rattle.uu_store.specs.Files.{FileStretch, AllFilesPassed, file_exchanges, last_left};
-ghost use Rattle.uu_store.specs.Openings.{ImageKeeps, Started};
-ghost use Rattle.uu_store.specs.Runs.{GoesOn, Ran, answered_commands};
-ghost use Rattle.uu_store.specs.Spool.{disk, Shows};
-ghost use Rattle.uu_store.specs.Stretches.{StretchOver, Led, exchanges_over};
-ghost use Rattle.uu_custody.specs.Carried.{Deed, events_of, sayings_at, IsSaidBy, WereSaid, WereSaidInFiles, nothing_said, GoesByBundles, CameInBundlesOver, CameInBundles};
-ghost use Rattle.uu_custody.specs.AmongSites.{AreNamed, AreAmong, GoAround, GoOn, IsInFiles, seen_by, AllCameInBundles};
+ghost use Rattle.uu_store.specs.Files.{FileStretch, AllFilesPassed, last_left};
+ghost use Rattle.uu_store.specs.Openings.{ImageKeeps};
+ghost use Rattle.uu_custody.specs.Carried.{Deed, events_of, nothing_said, GoesByBundles};
+ghost use Rattle.uu_custody.specs.AmongSites.{AreNamed, AreAmong, GoAround, GoOn, IsInFiles, AllCameInBundles};
 ghost use Rattle.uu_custody.specs.Routes.{Course, ComeOnceOverAll, IsOnItsWay, CameTo};
 
-use sqlite::Alter;
-use sqlite_disk::Disk;
 use uu_core::laws::{
     jobs_stay_through_runs, numbers_are_not_used_again, runs_follow_one_another,
     states_stay_well_formed,
 };
 use uu_handover::laws::{bundles_say_what_may_be_said, handed_on_jobs_come_once};
-use uu_store::laws::{
-    FileHistory, acknowledged_jobs_are_accounted_for, no_answered_command_is_lost_in_files,
-    no_answered_command_is_lost_over,
-};
+use uu_store::laws::acknowledged_jobs_are_accounted_for;
 
 /// Jobs that one spool hands on to another come once, with any commands for both, and with each of
 /// them stopped at any point. It is supposed that only what was answered or shown goes over the
@@ -76,41 +58,6 @@ pub fn jobs_come_once_over_stops()
     runs_follow_one_another();
 }
 
-/// Both spools are stopped at any point, over any stretches of work, and databases over stores of
-/// any two kinds are found after them. These store states of both by which each job has come once.
-/// If the receiver forgets only what the sender said, no key is in a job's way.
-pub fn jobs_come_once_over<S: Alter, R: Alter>()
-    ensures { (crossing : Crossing) (events : List Event) (a b : State) (before : Held S) (stretches : List (StretchOver S)) (found : Held S) (first : Held R) (others : List (StretchOver R)) (last : Held R)
-        → Led S.Store a before stretches found → Led R.Store b first others last
-        → exchanges_over S.Store stretches ≡ exchanges_at sender events → exchanges_over R.Store others ≡ exchanges_at receiver events
-        → WereShown S.Store crossing (sessions_at sender events) stretches → WereShown R.Store crossing (sessions_at receiver events) others → IsHandover crossing b events
-        → ∥ StoreOnce crossing a b events (state S.Store found) (state R.Store last) ∥₁ }
-{
-    no_answered_command_is_lost_over::<S>();
-    no_answered_command_is_lost_over::<R>();
-    states_stay_well_formed();
-    runs_follow_one_another();
-    jobs_come_once_over_stops();
-}
-
-/// The same for two spools in files: the sender's, whose stretches of work are `A`, and the
-/// receiver's, whose are `B`. Each is stopped at any point, even while it is opened. What is opened
-/// then shows the state that its files keep (`shows` of [`uu_store::open_spool`]).
-pub fn jobs_come_once_in_files<A: FileHistory, B: FileHistory>()
-    ensures { (crossing : Crossing) (events : List Event) (a b : State)
-        → ImageKeeps A.before a → AllFilesPassed A.before A.stretches → ImageKeeps B.before b → AllFilesPassed B.before B.stretches
-        → file_exchanges A.stretches ≡ exchanges_at sender events → file_exchanges B.stretches ≡ exchanges_at receiver events
-        → WereShownInFiles crossing A.before (sessions_at sender events) A.stretches → WereShownInFiles crossing B.before (sessions_at receiver events) B.stretches
-        → IsHandover crossing b events
-        → ∥ KeepOnce crossing a b events (last_left A.before A.stretches) (last_left B.before B.stretches) ∥₁ }
-{
-    no_answered_command_is_lost_in_files::<A>();
-    no_answered_command_is_lost_in_files::<B>();
-    states_stay_well_formed();
-    runs_follow_one_another();
-    jobs_come_once_over_stops();
-}
-
 /// Suppose that jobs go in bundles only, carried by anything. Each command about the other site's
 /// jobs that a site is given is of a line `unpack`, or of `settle`, which removes jobs that the
 /// bundle has. The bundle of the line is one that the other site said before, or the beginning of
@@ -119,54 +66,6 @@ pub fn jobs_come_once_in_files<A: FileHistory, B: FileHistory>()
 pub fn bundles_keep_to_the_wire()
     ensures keeps { (crossing : Crossing) (deeds : List (Deed Side)) → GoesByBundles crossing nothing_said deeds → KeepsToWire crossing nothing_sent (events_of crossing deeds) }
     ensures forgets { (crossing : Crossing) (deeds : List (Deed Side)) → GoesByBundles crossing nothing_said deeds → ForgetsWhatWasSaid crossing nothing_sent (events_of crossing deeds) }
-{}
-
-/// So jobs come once in bundles over databases, over stores of any two kinds, as in
-/// [`jobs_come_once_over`]. The premise is that each bundle was what its site had to say in the
-/// stored state.
-pub fn jobs_come_once_in_bundles_over<S: Alter, R: Alter>()
-    ensures { (crossing : Crossing) (deeds : List (Deed Side)) (a b : State) (before : Held S) (stretches : List (StretchOver S)) (found : Held S) (first : Held R) (others : List (StretchOver R)) (last : Held R)
-        → Led S.Store a before stretches found → Led R.Store b first others last
-        → exchanges_over S.Store stretches ≡ exchanges_at sender (events_of crossing deeds) → exchanges_over R.Store others ≡ exchanges_at receiver (events_of crossing deeds)
-        → WereSaid S.Store crossing.from (sayings_at (is_at sender) deeds) stretches → WereSaid R.Store crossing.to (sayings_at (is_at receiver) deeds) others
-        → link_of b crossing.from ≡ new_link crossing.from → GoesByBundles crossing nothing_said deeds
-        → ∥ CameInBundlesOver crossing a b deeds (state S.Store found) (state R.Store last) ∥₁ }
-{
-    bundles_say_what_may_be_said();
-    states_stay_well_formed();
-    bundles_keep_to_the_wire();
-    jobs_come_once_over::<S, R>();
-}
-
-/// So they come once over two spools in files, if each bundle was what its site had to say in the
-/// state that is kept. The only premise about a carrier is that each bundle that it brings was
-/// said, or is the beginning of one that was.
-pub fn jobs_come_once_in_bundles<A: FileHistory, B: FileHistory>()
-    ensures { (crossing : Crossing) (deeds : List (Deed Side)) (a b : State)
-        → ImageKeeps A.before a → AllFilesPassed A.before A.stretches → ImageKeeps B.before b → AllFilesPassed B.before B.stretches
-        → file_exchanges A.stretches ≡ exchanges_at sender (events_of crossing deeds) → file_exchanges B.stretches ≡ exchanges_at receiver (events_of crossing deeds)
-        → WereSaidInFiles crossing.from A.before (sayings_at (is_at sender) deeds) A.stretches → WereSaidInFiles crossing.to B.before (sayings_at (is_at receiver) deeds) B.stretches
-        → link_of b crossing.from ≡ new_link crossing.from → GoesByBundles crossing nothing_said deeds
-        → ∥ CameInBundles crossing a b deeds (last_left A.before A.stretches) (last_left B.before B.stretches) ∥₁ }
-{
-    bundles_say_what_may_be_said();
-    states_stay_well_formed();
-    bundles_keep_to_the_wire();
-    jobs_come_once_in_files::<A, B>();
-}
-
-/// What a spool in files shows is true of what the files kept when it was opened, after the
-/// commands that were answered since. So what a question answers may be noticed (`notices`, for
-/// `WereShownInFiles`), and said in a bundle (`bundles`, for `WereSaidInFiles`).
-pub fn what_a_spool_shows_is_true<D: Disk>()
-    ensures notices { (before : Image) (begun now : Spool (FileStore D D.Disk) over_files) (in_hand : ℕ) (commands : List Command) (replies : List Reply) (was : Option StoreFault) (crossing : Crossing) (notice : Notice)
-        → Started before begun → Ran in_hand commands begun now replies was → GoesOn was → HasCleanDisk (disk now)
-        → ((u : State) → Shows now u → IsTrueOf crossing u notice)
-        → (s : State) → ImageKeeps before s → IsTrueOf crossing (state_after s (answered_commands replies commands)) notice }
-    ensures bundles { (before : Image) (begun now : Spool (FileStore D D.Disk) over_files) (in_hand : ℕ) (commands : List Command) (replies : List Reply) (was : Option StoreFault) (own : List ℕ) (bundle : Bundle)
-        → Started before begun → Ran in_hand commands begun now replies was → GoesOn was → HasCleanDisk (disk now)
-        → ((u : State) → Shows now u → IsSaidBy own u bundle)
-        → (s : State) → ImageKeeps before s → IsSaidBy own (state_after s (answered_commands replies commands)) bundle }
 {}
 
 /// A message over several sites, between which jobs come once over each line. The spools of the
@@ -207,16 +106,10 @@ pub fn messages_come_once_in_files<H: Sites>()
 }
 
 /// Any number of sites, each with a name of its own. Suppose that each command about a neighbour's
-/// jobs is of a line whose bundle was said before by any of the sites, or is the beginning of one.
-/// Then each line's history goes by bundles. Anything that moves bundles among the sites is a
-/// carrier.
-pub fn bundles_go_around()
-    ensures { (chart : Chart) (name : ℕ → List ℕ) (deeds : List (Deed ℕ)) (line : ℕ) → AreNamed chart name → GoAround chart name [] deeds
-        → GoesByBundles (chart.crossing line) nothing_said (seen_by chart line deeds) }
-{}
-
-/// So over any lines between sites with spools in files messages come once in bundles, as they do
-/// in [`messages_come_once_in_files`]. No waiting job would be refused as `Stale` or `Differs`.
+/// jobs is of a line whose bundle was said before by any of the sites, or is the beginning of one
+/// (`GoAround`). Anything that moves bundles among the sites is a carrier. Then over any lines
+/// between sites with spools in files messages come once, as they do in
+/// [`messages_come_once_in_files`]. No waiting job would be refused as `Stale` or `Differs`.
 pub fn messages_come_once_in_bundles<H: Sites>()
     ensures { (chart : Chart) (name : ℕ → List ℕ) (count : ℕ) (first : ℕ → State) (deeds : List (Deed ℕ)) (lines : List ℕ)
         → AreNamed chart name → AreAmong chart count first lines → GoAround chart name [] deeds → GoOn deeds

@@ -7,9 +7,3 @@ mod CustodyLaws
 mod CustodyLemmas
 mod CustodyRuns
 mod ExchangeLaws
-mod NetworkArrival
-mod NetworkExamples
-mod NetworkKilled
-mod NetworkLaws
-mod NetworkWays
-mod NetworkWorlds

@@ -1,5 +1,5 @@
 //! What follows from the definitions.
-ghost use Rattle.std.specs.Prelude.{◌≡◌, ◌++◌, ◌⊎◌, ◌<◌, ℕ, List, Option, None, Contains, All, AllPairs, true, map};
+ghost use Rattle.std.specs.Prelude.{◌≡◌, ◌⊎◌, ◌<◌, ℕ, List, Option, None, Contains, All, AllPairs, true, map};
 ghost use Rattle.uu_core.specs.declared.command.Command.{Command};
 ghost use Rattle.uu_core.specs.declared.command.Command.TheVariants.{QueueOnce, Release};
 ghost use Rattle.uu_times.specs.declared.moment.Moment.{Moment};
@@ -8,11 +8,9 @@ ghost use Rattle.uu_core.specs.State.{State, Job, IsWellFormed, has_system};
 ghost use Rattle.uu_handover.specs.Bundles.{Bundle, Told, Packed, packed_of, has_of, AreWaiting, AreSomeWaiting, IsFront, IsSaid, settled_of, settling, BundleExchange, IsOfJob, GoesOrIsRefused};
 ghost use Rattle.uu_handover.specs.Custody.{Crossing, World, Parcel, Handed, Step, parcel_of, key_of, MayGo, MayGoOn, world_after, IsReached, IsHandedFor, IsQueued, IsNotLost, IsFree, IsLeast, least_of, MayCross};
 ghost use Rattle.uu_handover.specs.Custody.Step.{SenderRuns, SenderShows, SenderSays, ReceiverTells};
-ghost use Rattle.uu_handover.specs.Network.{Chart, Network, Move, world_of, MayMoveOn, network_after, IsReachedNetwork, IsRoute, GoesBy, ComesTo, IsMadeOf, HasPlaceOnTheWay, AreNamedApart, by_line, IsWelcome, next_of, IsWelcomeOn, IsAcross, MayArrive};
 ghost use Rattle.uu_core.specs.Verdict.{verdict};
 ghost use Rattle.uu_core.specs.After.{after};
 ghost use Rattle.uu_core.specs.Run.{state_after};
-ghost use Rattle.uu_core.specs.Laws.{IsAmong};
 
 /// Custody: jobs are handed on under keys over a wire. The wire keeps everything, repeats it, and
 /// changes its order. Meanwhile both sites run any other commands and serve their other neighbours.
@@ -106,48 +104,4 @@ pub fn jobs_go_or_are_refused()
     ensures taken { (to : List ℕ) (mark : Parcel → ℕ) (sender : State) (bundle : Bundle) (exchange : BundleExchange bundle) (job : Job)
         → IsWellFormed sender → Contains sender.jobs job → ¬ Contains (after sender (settling to mark sender exchange.answer)).0.jobs job
         → Contains (has_of exchange.from exchange.later) (record { number = job.number; mark = mark (parcel_of job) }) }
-{}
-
-/// A message over several sites: lines lead from site to site, each a crossing under keys. In a
-/// network that is reached, each line is a world of two spools that is reached (`each_line`), so
-/// everything that [`handed_on_jobs_come_once`] says holds there.
-///
-/// - By a list of lines a job comes to at most one last job (`never_twice`). Two last jobs of one
-///   number come from one number at the beginning (`apart`).
-/// - It goes one way: of two routes by which it came, one is the beginning of the other
-///   (`one_way`). Jobs that lines queued at one site have the same number only if they are the same
-///   job of the same line (`one_origin`). If it came to a job once, it stays so (`onward`).
-/// - A job that a site had for a route is later at one place of the route: the furthest job made of
-///   it waits, was killed, or was queued at the last site (`never_lost`, `one_place`). A killed job
-///   doesn't wait (`killed`).
-/// - What comes to the end is what the programs on the way make of it, one after the other
-///   (`made`).
-/// - If the end of a line accepts what it makes of a job, three moves bring it there (`crosses`).
-///   So it goes along any route whose sites accept it (`arrives`).
-pub fn messages_cross_sites_once()
-    ensures each_line { (chart : Chart) (network : Network) (line : ℕ) → IsReachedNetwork chart network → IsReached (chart.crossing line) (world_of chart network line) }
-    ensures never_twice { (chart : Chart) (network : Network) (lines : List ℕ) (job one other : Job) → IsReachedNetwork chart network
-        → ComesTo network lines job one → ComesTo network lines job other → one ≡ other }
-    ensures apart { (chart : Chart) (network : Network) (lines : List ℕ) (one other first second : Job) → IsReachedNetwork chart network
-        → ComesTo network lines one first → ComesTo network lines other second → first.number ≡ second.number → one.number ≡ other.number }
-    ensures one_way { (chart : Chart) (network : Network) (site : ℕ) (lines others : List ℕ) (job one other : Job) → IsReachedNetwork chart network → AreNamedApart chart
-        → IsRoute chart site lines → IsRoute chart site others → ComesTo network lines job one → ComesTo network others job other
-        → (more : List ℕ) × ((lines ++ more ≡ others) ⊎ (others ++ more ≡ lines)) }
-    ensures one_origin { (chart : Chart) (network : Network) (line next : ℕ) (one other : Handed) → IsReachedNetwork chart network → chart.ends line ≡ chart.ends next
-        → Contains (network.wire line).handed one → Contains (network.wire next).handed other → one.job.number ≡ other.job.number → (line ≡ next) × (one.number ≡ other.number) }
-    ensures onward { (chart : Chart) (network : Network) (moves : List Move) (lines : List ℕ) (job last : Job)
-        → ComesTo network lines job last → ComesTo (network_after chart network moves) lines job last }
-    ensures never_lost { (chart : Chart) (network : Network) (moves : List Move) (site : ℕ) (lines : List ℕ) (job : Job) → IsReachedNetwork chart network → MayMoveOn chart network moves
-        → IsRoute chart site lines → Contains (network.site site).jobs job → GoesBy chart lines job → HasPlaceOnTheWay chart (network_after chart network moves) lines job }
-    ensures one_place { (chart : Chart) (network : Network) (lines : List ℕ) (job : Job) (one other : HasPlaceOnTheWay chart network lines job) → IsReachedNetwork chart network
-        → (one.crossed ≡ other.crossed) × (one.last ≡ other.last) }
-    ensures killed { (chart : Chart) (network : Network) (line : ℕ) (job : Job) → IsReachedNetwork chart network → Contains (network.wire line).killed job.number
-        → ¬ IsAmong (network.site (chart.begins line)).jobs job }
-    ensures made { (chart : Chart) (network : Network) (moves : List Move) (site : ℕ) (lines : List ℕ) (job last : Job) → IsReachedNetwork chart network → MayMoveOn chart network moves
-        → IsRoute chart site lines → Contains (network.site site).jobs job → ComesTo (network_after chart network moves) lines job last → IsMadeOf chart lines job last }
-    ensures crosses { (chart : Chart) (network : Network) (line : ℕ) (job : Job) (new : NewJob) (at : Moment) → IsReachedNetwork chart network → AreNamedApart chart
-        → Contains (network.site (chart.begins line)).jobs job → job.system ≡ (chart.crossing line).to → IsWelcome chart network line job new
-        → IsAcross chart network (by_line chart line job new at) line job (next_of chart network line new) }
-    ensures arrives { (chart : Chart) (network : Network) (site : ℕ) (lines : List ℕ) (job : Job) → IsReachedNetwork chart network → AreNamedApart chart
-        → IsRoute chart site lines → Contains (network.site site).jobs job → GoesBy chart lines job → IsWelcomeOn chart network lines job → MayArrive chart network site lines job }
 {}

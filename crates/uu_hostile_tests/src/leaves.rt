@@ -16,6 +16,8 @@ use uu_core::{
 use uu_map::{entry_host, read_entry, split};
 use uu_names::{Path, SiteName, Word, envelope, return_path};
 use uu_plain::Machine;
+use uu_routes::{meant_host, site_routes};
+use uu_seal::{Key, KeyFault, keys_in, open, seal};
 use uu_times::{Moment, SystemDef, Timetables, Windows, Zone, read_sys, read_time, write_sys};
 
 // ---- names
@@ -190,6 +192,94 @@ const MAP_CALLS: &[(&str, MapCall)] = &[
 fn maps(rt: HostRuntime) {
     for (name, call) in MAP_CALLS {
         refuse_each_of(&rt, rt.alloc(), name, call);
+    }
+}
+
+// ---- routes
+
+/// A call on the entries of a map.
+#[derive(Clone, Copy)]
+enum RouteCall {
+    Routes,
+    Host,
+}
+
+impl Ask for RouteCall {
+    fn said<R: Abort>(&self, rt: &R, alloc: Global, refusing: Refusing) -> Said {
+        let mut entries = Vec::new(alloc);
+        let entry = read_entry(alloc, MAP).expect(rt, "an entry");
+        entries.push(entry).expect(rt, "memory");
+        let own = site(rt, alloc, "mysite");
+        let alias = site(rt, alloc, "unc-ch");
+        let mut systems = Vec::new(alloc);
+        let system = site(rt, alloc, "unc-ch");
+        systems.push(system).expect(rt, "memory");
+        refusing.begin(alloc);
+        match *self {
+            RouteCall::Routes => note(rt, alloc, &site_routes(alloc, &entries, &own, &systems)),
+            RouteCall::Host => note(rt, alloc, &meant_host(alloc, &entries, &alias)),
+        }
+    }
+}
+
+const ROUTE_CALLS: &[(&str, RouteCall)] = &[
+    ("site_routes", RouteCall::Routes),
+    ("meant_host", RouteCall::Host),
+];
+
+#[test]
+fn routes(rt: HostRuntime) {
+    for (name, call) in ROUTE_CALLS {
+        refuse_each_of(&rt, rt.alloc(), name, call);
+    }
+}
+
+// ---- seals
+
+/// A call on a sealed text or on a key file.
+#[derive(Clone, Copy)]
+enum SealCall<'a> {
+    Seal(&'a [u8]),
+    Open(&'a [u8]),
+    Keys(&'a [u8]),
+}
+
+/// The key of both.
+const KEY: [u8; 32] = [7; 32];
+
+impl Ask for SealCall<'_> {
+    fn said<R: Abort>(&self, rt: &R, alloc: Global, refusing: Refusing) -> Said {
+        let key = Key::new(KEY);
+        let keys = [Key::new(KEY)];
+        refusing.begin(alloc);
+        match *self {
+            SealCall::Seal(text) => note(rt, alloc, &seal(alloc, &key, text)),
+            SealCall::Open(text) => note(rt, alloc, &open(alloc, &keys, text)),
+            SealCall::Keys(text) => match keys_in(alloc, text) {
+                Ok(keys) => note(rt, alloc, &Ok::<usize, KeyFault>(keys.as_slice().len())),
+                Err(fault) => note(rt, alloc, &Err::<usize, KeyFault>(fault)),
+            },
+        }
+    }
+}
+
+/// Two keys, each on a line.
+const KEY_FILE: &[u8] =
+    b"0707070707070707070707070707070707070707070707070707070707070707\n0000000000000000000000000000000000000000000000000000000000000000\n";
+
+#[test]
+fn seals(rt: HostRuntime) {
+    let alloc = rt.alloc();
+    let sealed = seal(alloc, &Key::new(KEY), MESSAGE).expect(&rt, "memory");
+    let others = seal(alloc, &Key::new([8; 32]), MESSAGE).expect(&rt, "memory");
+    for (name, call) in [
+        ("seal", SealCall::Seal(MESSAGE)),
+        ("open", SealCall::Open(&sealed)),
+        ("open (another key)", SealCall::Open(&others)),
+        ("keys_in", SealCall::Keys(KEY_FILE)),
+        ("keys_in (a fault)", SealCall::Keys(&KEY_FILE[..100])),
+    ] {
+        refuse_each_of(&rt, alloc, name, &call);
     }
 }
 

@@ -11,8 +11,8 @@ use uu_core::{Due, JobHead, Queue, SystemRow, next_calls, next_polls, queues};
 use uu_map::{Entry, read_entry};
 use uu_times::Moment;
 use uuspool::{
-    Fault, Settings, fault_line, line_of, read_input, report_due, report_jobs, report_links,
-    report_next_calls, report_next_polls, report_queues, report_status,
+    Fault, Settings, fault_line, line_of, name_text, read_input, report_due, report_jobs,
+    report_links, report_next_calls, report_next_polls, report_queues, report_status,
 };
 
 // ---- words, settings, input and faults
@@ -22,6 +22,7 @@ use uuspool::{
 enum Given<'a> {
     Words(&'a [String]),
     Settings(&'a str),
+    Name(&'a Settings),
     Input,
     Fault(&'a Fault),
 }
@@ -32,6 +33,7 @@ impl Ask for Given<'_> {
         match *self {
             Given::Words(words) => note(rt, alloc, &line_of(alloc, words).err()),
             Given::Settings(text) => note(rt, alloc, &Settings::read(alloc, text)),
+            Given::Name(settings) => note(rt, alloc, &name_text(alloc, settings)),
             Given::Input => note(rt, alloc, &read_input(alloc, &mut SYS_FILE)),
             Given::Fault(fault) => note(rt, alloc, &fault_line(alloc, fault)),
         }
@@ -82,6 +84,12 @@ fn settings_are_read(rt: HostRuntime) {
     for (name, text) in SETTINGS_TEXTS {
         refuse_each_of(&rt, rt.alloc(), name, &Given::Settings(text));
     }
+    refuse_each_of(
+        &rt,
+        rt.alloc(),
+        "name_text",
+        &Given::Name(&settings(&rt, rt.alloc())),
+    );
 }
 
 #[test]

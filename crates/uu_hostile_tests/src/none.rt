@@ -19,6 +19,7 @@ use uu_names::text::{blanks_len, first_line, is_blank, len_before};
 use uu_names::{Grade, Listed, NameFault, Path, SiteName, is_site_byte};
 use uu_plain::Machine;
 use uu_schema::{StoreFault, StoreKind};
+use uu_seal::{Key as SealKey, hmac};
 use uu_times::{Moment, SystemDef, TimeFault, Windows, Zone};
 use uuspool::{Fault, Key, Settings, SettingsFault, Task, batch_settings, fault_status, moment_of};
 
@@ -64,6 +65,18 @@ fn names(rt: HostRuntime) {
         "NameFault::code",
     ];
     expect_none(&rt, alloc, &names, &answers, want);
+}
+
+#[test]
+fn tags(rt: HostRuntime) {
+    let alloc = rt.alloc();
+    ALL.begin(alloc);
+    // (test case 2 of RFC 4231)
+    let tag = hmac(b"Jefe", b"what do ya want ", b"for nothing?");
+    let _key = SealKey::new(tag);
+    let answers = (tag[0], tag[1], tag[31]);
+    let names = ["hmac", "Key::new"];
+    expect_none(&rt, alloc, &names, &answers, "(91, 220, 67)");
 }
 
 #[test]

@@ -208,11 +208,20 @@ fn add_worked(rt: &impl Abort, alloc: Global, text: &mut Vec<u8>) {
         target: word(rt, alloc, "/d"),
     };
     let third = head(rt, alloc, 14, b'0', "bob", kind);
-    let added = add_job(alloc, &from, &to, &spool, &first, b"hi\nend\n", text);
+    let added = add_job(
+        alloc,
+        &from,
+        &to,
+        &spool,
+        &first,
+        b"hi\nend\n",
+        MAX_BUNDLE,
+        text,
+    );
     expect_same(rt, &added.expect(rt, "memory"), &true);
-    let added = add_job(alloc, &from, &to, &spool, &second, b"", text);
+    let added = add_job(alloc, &from, &to, &spool, &second, b"", MAX_BUNDLE, text);
     expect_same(rt, &added.expect(rt, "memory"), &true);
-    let added = add_job(alloc, &from, &to, &spool, &third, b"\xff", text);
+    let added = add_job(alloc, &from, &to, &spool, &third, b"\xff", MAX_BUNDLE, text);
     expect_same(rt, &added.expect(rt, "memory"), &true);
     end_bundle(text).expect(rt, "memory");
 }
@@ -258,13 +267,15 @@ fn fill(rt: &impl Abort, alloc: Global, size: usize) -> Vec<u8> {
     let mut job = head(rt, alloc, 1, b'N', "u", kind);
     for number in 1..100_000 {
         job.number = number;
-        let added = add_job(alloc, &from, &to, &spool, &job, &bytes, &mut text);
+        let added = add_job(
+            alloc, &from, &to, &spool, &job, &bytes, MAX_BUNDLE, &mut text,
+        );
         if !added.expect(rt, "memory") {
             break;
         }
     }
     end_bundle(&mut text).expect(rt, "memory");
-    expect_same(rt, &(text.len() <= MAX_BUNDLE), &true);
+    expect_same(rt, &(text.len() <= MAX_BUNDLE as usize), &true);
     text
 }
 
@@ -299,9 +310,10 @@ fn half_of_a_bundle(rt: HostRuntime) {
         })
         .expect(&rt, "memory");
     }
-    let text = begin_bundle(alloc, &from, &to, &spool, 1, lowest, &has).expect(&rt, "memory");
-    expect_same(&rt, &(text.len() <= MAX_TOLD), &true);
-    expect_same(&rt, &(text.len() + 29 > MAX_TOLD), &true);
+    let begun = begin_bundle(alloc, &from, &to, &spool, 1, lowest, &has, MAX_BUNDLE);
+    let text = begun.expect(&rt, "memory");
+    expect_same(&rt, &(text.len() <= MAX_TOLD as usize), &true);
+    expect_same(&rt, &(text.len() + 29 > MAX_TOLD as usize), &true);
     let bundle = read_bundle(alloc, &text).expect(&rt, "a bundle");
     let told = bundle.has.as_slice().len();
     expect_same(&rt, &(text.len().saturating_sub(29 * told) < 100), &true);

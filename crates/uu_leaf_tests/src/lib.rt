@@ -19,6 +19,8 @@ mod names;
 #[cfg(test)]
 mod paths;
 #[cfg(test)]
+mod sealing;
+#[cfg(test)]
 mod sys_files;
 #[cfg(test)]
 mod taking;

@@ -27,7 +27,7 @@ use Rattle.clap.specs.declared.error.kind.ErrorKind.{ErrorKind}
 use Rattle.clap.specs.declared.error.kind.ErrorKind.TheVariants as kind
 use Rattle.clap.proofs.SimpleLemmas.{is_false, is_nil}
 use Rattle.clap.proofs.WalkLemmas.{both}
-use Rattle.uu_line.specs.Internal.Entries.{AreNumbersUpTo, AreLineEntries, HasSubcommand, HaveTexts, IsEntered, most_job, most_second, subcommand_named, texts_of}
+use Rattle.uu_line.specs.Internal.Entries.{AreNumbersUpTo, AreLineEntries, HasSubcommand, HaveTexts, IsEntered, most_job, most_second, most_size, subcommand_named, texts_of}
 use Rattle.uu_line.specs.Lines.{texts_at}
 use Rattle.uu_line.proofs.StopLemmas.{long_steps, steps_so, step_stops, stops_so}
 use Rattle.uu_line.proofs.UseLemmas.{HoldsIfAny, RowsHold, RulesHold, UsesHold, all_pass, first_passes, is_counting, level_holds, then_passes}
@@ -408,17 +408,20 @@ module _ (s : Shape) (names : Names) (helps : s.disable_help_subcommand ≡ fals
 
 -- ---- a command with its subcommands
 
+-- its jobs are numbers, and so are its sizes
+abbrev has_numbers : Shape → Bool
+has_numbers s = fit (codes "job") (takes_numbers most_job) s.rules && fit (codes "most") (takes_numbers most_size) s.rules
+
 -- what a subcommand of the program passes
 abbrev pub passes_below : Shape → Bool
 passes_below s = is_empty s.aliases
     && (bytes_eq s.name (codes "help")
-    || (is_some (subcommand_named s.name) && (list_all (λ id. has_text id s) (texts_of s.name) && fit (codes "job") (takes_numbers most_job) s.rules)))
+    || (is_some (subcommand_named s.name) && (list_all (λ id. has_text id s) (texts_of s.name) && has_numbers s)))
 
 -- and what its own level does
 abbrev pub passes_on_top : Shape → Bool
-passes_on_top s = (fit (codes "config") takes_some s.rules && has_default (codes "config") s)
-    && ((fit (codes "as") takes_some s.rules && has_default (codes "as") s)
-    && (fit (codes "at") (takes_numbers most_second) s.rules && (s.subcommand_required && not s.disable_help_subcommand)))
+passes_on_top s = (fit (codes "as") takes_some s.rules && has_default (codes "as") s)
+    && (fit (codes "at") (takes_numbers most_second) s.rules && (s.subcommand_required && not s.disable_help_subcommand))
 
 met_there : (has wanted : Bool) → wanted ≡ true → (not has && wanted) ≡ false → has ≡ true
 met_there true wanted is e = refl
@@ -437,27 +440,31 @@ below_taken : (s : Shape) (word : Text) (words : List Text) → passes_below s �
 below_taken s word words test answers other e = record {
   known = parts.0;
   texts = level_texts s [] words (texts_of s.name) [] e more.0;
-  jobs = level_numbers s [] words (codes "job") most_job false [] e more.1;
+  jobs = level_numbers s [] words (codes "job") most_job false [] e numbers.0;
+  sizes = level_numbers s [] words (codes "most") most_size false [] e numbers.1;
 }
   where
     outer : (is_empty s.aliases ≡ true)
         × ((bytes_eq s.name (codes "help")
-        || (is_some (subcommand_named s.name) && (list_all (λ id. has_text id s) (texts_of s.name) && fit (codes "job") (takes_numbers most_job) s.rules))) ≡ true)
+        || (is_some (subcommand_named s.name) && (list_all (λ id. has_text id s) (texts_of s.name) && has_numbers s))) ≡ true)
     outer = both _ _ test
 
     named_so : s.name ≡ word
     named_so = (bytes_eq-Decides s.name word).0 (answered_by word s.name s.aliases outer.0 answers)
 
-    inner : (is_some (subcommand_named s.name) && (list_all (λ id. has_text id s) (texts_of s.name) && fit (codes "job") (takes_numbers most_job) s.rules)) ≡ true
+    inner : (is_some (subcommand_named s.name) && (list_all (λ id. has_text id s) (texts_of s.name) && has_numbers s)) ≡ true
     inner = ⊎_elim
         (λ help. absurd (true≢false (sym (subst (λ b. not b ≡ true) (subst (λ t. bytes_eq t (codes "help") ≡ true) named_so help) other))))
         (λ own. own) (or_cases (bytes_eq s.name (codes "help")) _ outer.1)
 
-    parts : (is_some (subcommand_named s.name) ≡ true) × ((list_all (λ id. has_text id s) (texts_of s.name) && fit (codes "job") (takes_numbers most_job) s.rules) ≡ true)
+    parts : (is_some (subcommand_named s.name) ≡ true) × ((list_all (λ id. has_text id s) (texts_of s.name) && has_numbers s) ≡ true)
     parts = both _ _ inner
 
-    more : (list_all (λ id. has_text id s) (texts_of s.name) ≡ true) × (fit (codes "job") (takes_numbers most_job) s.rules ≡ true)
+    more : (list_all (λ id. has_text id s) (texts_of s.name) ≡ true) × (has_numbers s ≡ true)
     more = both _ _ parts.1
+
+    numbers : (fit (codes "job") (takes_numbers most_job) s.rules ≡ true) × (fit (codes "most") (takes_numbers most_size) s.rules ≡ true)
+    numbers = both _ _ more.1
 
 module _ (b : App) (below : list_all passes_below b.subs ≡ true) (on_top : passes_on_top b.top ≡ true) where
   subcommand_taken : (stop : Option (Text × List Text)) → is_some (entered b stop) ≡ true → entered_fault b stop ≡ [] → stops_so is_other stop ≡ true → HasSubcommand (entered b stop)
@@ -476,7 +483,7 @@ module _ (b : App) (below : list_all passes_below b.subs ≡ true) (on_top : pas
   pub all_taken : (words : List Text) → built_fault b nothing_held words ≡ []
       → AreLineEntries (rows_after b.top.rules (names_of b) words) (entered b (walk b.top.rules (names_of b) nothing_held words).stopped)
   all_taken words e = record {
-    texts = (default_text b.top names words (codes "config") has lower e config.0 config.1, (default_text b.top names words (codes "as") has lower e user.0 user.1, tt));
+    texts = (default_text b.top names words (codes "as") has lower e user.0 user.1, tt);
     second = level_numbers b.top names words (codes "at") most_second has lower e second.0;
     subcommand = subcommand_taken stop
         (met_there has b.top.subcommand_required needs.0
@@ -503,17 +510,9 @@ module _ (b : App) (below : list_all passes_below b.subs ≡ true) (on_top : pas
       passes : (walk_fault b.top (names_of b) (walk_from nothing_held) words ≡ []) × (lower ≡ []) × (check_fault b.top rows has ≡ [])
       passes = rows_pass b.top (names_of b) words has lower e
 
-      first : ((fit (codes "config") takes_some b.top.rules && has_default (codes "config") b.top) ≡ true)
-          × (((fit (codes "as") takes_some b.top.rules && has_default (codes "as") b.top)
-          && (fit (codes "at") (takes_numbers most_second) b.top.rules && (b.top.subcommand_required && not b.top.disable_help_subcommand))) ≡ true)
-      first = both _ _ on_top
-
-      config : (fit (codes "config") takes_some b.top.rules ≡ true) × (has_default (codes "config") b.top ≡ true)
-      config = both _ _ first.0
-
       others : ((fit (codes "as") takes_some b.top.rules && has_default (codes "as") b.top) ≡ true)
           × ((fit (codes "at") (takes_numbers most_second) b.top.rules && (b.top.subcommand_required && not b.top.disable_help_subcommand)) ≡ true)
-      others = both _ _ first.1
+      others = both _ _ on_top
 
       user : (fit (codes "as") takes_some b.top.rules ≡ true) × (has_default (codes "as") b.top ≡ true)
       user = both _ _ others.0

@@ -33,7 +33,7 @@ use Rattle.clap.proofs.ValueTestLemmas.{accepts-Accepts}
 use Rattle.clap.proofs.WalkLemmas.{both}
 use Rattle.uu_line.specs.Internal.Entries.{AreNumbersUpTo, AreLineEntries, HasSubcommand}
 use Rattle.uu_line.specs.Lines.{texts_at}
-use Rattle.uu_line.specs.Lines.{AnswersUnlessMemory, AreNumbers, HasEntriesOf, IsAddressFault, IsAnswerTo, IsBadAddress, IsNumber, IsNumberOf, IsWordsOf, LineView, Means, MeansEntered, MeansEntries, MeansLineOf, UnlessMemory, and_then, each_of, line_or_fault, named, line_view, word_of}
+use Rattle.uu_line.specs.Lines.{AnswersUnlessMemory, AreNumbers, HasEntriesOf, IsAddressFault, IsAnswerTo, IsBadAddress, IsNumber, IsNumberOf, IsWordsOf, LineView, Means, MeansEntered, MeansEntries, MeansLineOf, UnlessMemory, WithText, and_then, each_of, line_or_fault, named, line_view, word_of}
 use Rattle.uu_line.proofs.ProgramLemmas.{program_takes}
 use Rattle.uu_line.specs.declared.fault.LineFault.{LineFault}
 use Rattle.uu_line.specs.declared.fault.LineFault.TheVariants as fault
@@ -329,27 +329,33 @@ rests_next (path ∷ paths) (suc i) d rests rest inside so_far is =
     ap (λ r. r ++ rest ∷ []) so_far ∙ ap (λ r. rest_of path ∷ r) (rests_next paths i d (map rest_of (take i paths)) rest (omega arith) refl is)
 
 -- the line if the user isn't valid, if the task isn't valid, and if both are valid
-pub user_fault : (rows : List Row) (entered : Option (Text × List Row)) (config user : Text) (at : Option ℕ) (f : LineFault) → Some config ≡ first_of (codes "config") rows
+pub user_fault : (rows : List Row) (entered : Option (Text × List Row)) (user : Text) (at : Option ℕ) (f : LineFault)
     → Some user ≡ first_of (codes "as") rows → IsNumberOf 64 (first_of (codes "at") rows) at
     → (let answer : Result (List ℕ) LineFault = Err f in AnswersUnlessMemory answer (word_of user))
     → (let answer : Result CommandLine LineFault = Err f in UnlessMemory (λ a. MeansEntries rows entered (line_or_fault a)) answer)
-user_fault rows entered config user at f is_config is_user is_at answers =
+user_fault rows entered user at f is_user is_at answers =
     err_weaker (λ a. a ≡ word_of user) (λ a. MeansEntries rows entered (line_or_fault a)) f
-    (λ is. (config, is_config, (user, is_user, (at, is_at, subst (λ read. MeansLineOf config at read entered (Err f)) is refl)))) answers
+    (λ is. (user, is_user, (at, is_at, subst (λ read. MeansLineOf (first_of (codes "config") rows) at read entered (Err f)) is refl))) answers
 
-pub task_fault : (rows : List Row) (entered : Option (Text × List Row)) (config user : Text) (at : Option ℕ) (word : List ℕ) (f : LineFault)
-    → Some config ≡ first_of (codes "config") rows → Some user ≡ first_of (codes "as") rows → IsNumberOf 64 (first_of (codes "at") rows) at
+pub task_fault : (rows : List Row) (entered : Option (Text × List Row)) (user : Text) (at : Option ℕ) (word : List ℕ) (f : LineFault)
+    → Some user ≡ first_of (codes "as") rows → IsNumberOf 64 (first_of (codes "at") rows) at
     → Ok word ≡ word_of user → (let answer : Result Task LineFault = Err f in UnlessMemory (MeansEntered entered) answer)
     → (let answer : Result CommandLine LineFault = Err f in UnlessMemory (λ a. MeansEntries rows entered (line_or_fault a)) answer)
-task_fault rows entered config user at word f is_config is_user is_at is_word means =
+task_fault rows entered user at word f is_user is_at is_word means =
     err_weaker (MeansEntered entered) (λ a. MeansEntries rows entered (line_or_fault a)) f
-    (λ means. (config, is_config, (user, is_user, (at, is_at, subst (λ read. MeansLineOf config at read entered (Err f)) is_word (Err f, means, refl))))) means
+    (λ means. (user, is_user, (at, is_at, subst (λ read. MeansLineOf (first_of (codes "config") rows) at read entered (Err f)) is_word (Err f, means, refl)))) means
 
-pub line_meant : (rows : List Row) (entered : Option (Text × List Row)) (user : Text) (line : CommandLine) → Some (string_bytes line.config) ≡ first_of (codes "config") rows
+pub line_meant : (rows : List Row) (entered : Option (Text × List Row)) (user : Text) (line : CommandLine) → option_map string_bytes line.config ≡ first_of (codes "config") rows
     → Some user ≡ first_of (codes "as") rows → IsNumberOf 64 (first_of (codes "at") rows) line.at → Ok line.user ≡ word_of user
     → MeansEntered entered (Ok line.task) → MeansEntries rows entered (Ok (line_view line))
 line_meant rows entered user line is_config is_user is_at is_word means =
-    (string_bytes line.config, is_config, (user, is_user, (line.at, is_at, subst (λ read. MeansLineOf (string_bytes line.config) line.at read entered (Ok (line_view line))) is_word (Ok line.task, means, refl))))
+    subst (λ config. WithUser config) is_config
+    (user, is_user, (line.at, is_at, subst (λ read. MeansLineOf (option_map string_bytes line.config) line.at read entered (Ok (line_view line))) is_word (Ok line.task, means, refl)))
+  where
+    WithUser : Option Text → Type 0
+    WithUser config =
+        WithText (codes "as") rows (λ user.
+        (at : Option ℕ) × IsNumberOf 64 (first_of (codes "at") rows) at × MeansLineOf config at (word_of user) entered (Ok (line_view line)))
 
 -- a task that means what its subcommand does
 pub task_meant : (P Q : Result Task LineFault → Type 0) (answer : Result Task LineFault) → ((meant : Result Task LineFault) → P meant → Q meant)

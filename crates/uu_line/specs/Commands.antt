@@ -13,7 +13,6 @@ abbrev pub config_option : Rule
 config_option = record (new_rule (codes "config")) {
   short = Some (byte "c");
   value_names = 1;
-  defaults = codes "uuspool.toml" ∷ [];
 }
 
 -- `--at SECONDS`, a whole number of at most 9,999,999,999
@@ -141,15 +140,24 @@ after_option = record (new_rule (codes "job")) {
   parser = Some (Unsigned 0 4_294_967_295);
 }
 
+-- `--most BYTES`, a whole number from 1 to 4,294,967,295
+abbrev pub most_option : Rule
+most_option = record (new_rule (codes "most")) {
+  long = Some (codes "most");
+  value_names = 1;
+  parser = Some (Unsigned 1 4_294_967_295);
+}
+
 -- `--no-jobs`, without a value
 abbrev pub no_jobs_option : Rule
 no_jobs_option = record (new_rule (codes "no-jobs")) { long = Some (codes "no-jobs"); value_names = 1; action = Some SetTrue }
 
--- `[-g GRADE] [--spool WORD] [--after JOB] [--no-jobs]`
+-- `[-g GRADE] [--spool WORD] [--after JOB] [--most BYTES] [--no-jobs]`
 abbrev pub with_packing : App → App
-with_packing app = with_rule (with_rule (with_rule (with_rule app lowest_grade) spool_option) after_option) no_jobs_option
+with_packing app =
+    with_rule (with_rule (with_rule (with_rule (with_rule app lowest_grade) spool_option) after_option) most_option) no_jobs_option
 
--- `pack SYSTEM [-g GRADE] [--spool WORD] [--after JOB] [--no-jobs]`
+-- `pack SYSTEM [-g GRADE] [--spool WORD] [--after JOB] [--most BYTES] [--no-jobs]`
 abbrev pub pack_command : App
 pack_command = with_packing (with_rule (new_app (codes "pack")) (argument (codes "system")))
 
@@ -162,7 +170,7 @@ unpack_command =
 abbrev pub settle_command : App
 settle_command = with_rule (with_rule (new_app (codes "settle")) (argument (codes "system"))) spool_option
 
--- `answer SENDER [SYSTEM..] [-g GRADE] [--spool WORD] [--after JOB] [--no-jobs]`
+-- `answer SENDER [SYSTEM..] [-g GRADE] [--spool WORD] [--after JOB] [--most BYTES] [--no-jobs]`
 abbrev pub answer_command : App
 answer_command =
     with_packing (with_rule (with_rule (new_app (codes "answer")) (argument (codes "sender"))) (arguments (codes "system") 0))
@@ -170,6 +178,18 @@ answer_command =
 -- `neighbours HOST`
 abbrev pub neighbours_command : App
 neighbours_command = with_rule (new_app (codes "neighbours")) (argument (codes "host"))
+
+-- `--cost`, without a value
+abbrev pub cost_option : Rule
+cost_option = record (new_rule (codes "cost")) { long = Some (codes "cost"); value_names = 1; action = Some SetTrue }
+
+-- `route [--cost] HOST`
+abbrev pub route_command : App
+route_command = with_rule (with_rule (new_app (codes "route")) cost_option) (argument (codes "host"))
+
+-- `routes [--cost]`
+abbrev pub routes_command : App
+routes_command = with_rule (new_app (codes "routes")) cost_option
 
 -- the words are those after the program's name, a subcommand is required, and there is a
 -- `--version`
@@ -208,7 +228,11 @@ with_calls =
     failed_command.top) done_command.top) forget_command.top) pack_command.top) unpack_command.top) settle_command.top) answer_command.top
 
 -- and those of the map and of the site
-abbrev pub program : App
-program =
+abbrev pub with_site : App
+with_site =
     with_subcommand (with_subcommand (with_subcommand with_calls (new_app (codes "map")).top) neighbours_command.top)
     (new_app (codes "name")).top
+
+-- and those of routes
+abbrev pub program : App
+program = with_subcommand (with_subcommand with_site route_command.top) routes_command.top

@@ -1,6 +1,6 @@
 -- What the words of a line mean. The forms of words are those of `clap`, which refuses a line
 -- without a subcommand and its required entries. The lines themselves are this project's choice.
-use Rattle.std.specs.Prelude.{◌≡◌, ◌≢◌, ◌↔◌, ◌⊎◌, Bool, true, false, ℕ, ◌^◌, ◌<◌, ◌&&◌, nat_le, length, List, [], ◌∷◌, Option, Some, None, Result, Ok, Err, All, ⊤, codes, if◌then◌else◌, map, take, slice_get, ok_or, string_bytes, unwrap_or}
+use Rattle.std.specs.Prelude.{◌≡◌, ◌≢◌, ◌↔◌, ◌⊎◌, Bool, true, false, ℕ, ◌^◌, ◌<◌, ◌&&◌, nat_le, length, List, [], ◌∷◌, Option, Some, None, Result, Ok, Err, All, ⊤, codes, if◌then◌else◌, map, take, option_map, slice_get, ok_or, string_bytes, unwrap_or}
 use Rattle.std.specs.List.{list_all, list_any}
 use Rattle.std.specs.Option.{option_map_or}
 use Rattle.std.specs.Str.Parse.{IsNumeral, digits_value, without_leading_plus}
@@ -231,12 +231,12 @@ done_task system jobs = and_then (site_of system) (λ system. Ok (task.Done syst
 abbrev pub forget_task : Text → ℕ → Result Task LineFault
 forget_task system below = and_then (site_of system) (λ system. Ok (task.Forget system below))
 
--- `pack SYSTEM [-g GRADE] [--spool WORD] [--after JOB] [--no-jobs]`
-abbrev pub pack_task : Text → Text → Option Text → Option ℕ → Bool → Result Task LineFault
-pack_task system grade spool after no_jobs =
+-- `pack SYSTEM [-g GRADE] [--spool WORD] [--after JOB] [--most BYTES] [--no-jobs]`
+abbrev pub pack_task : Text → Text → Option Text → Option ℕ → Option ℕ → Bool → Result Task LineFault
+pack_task system grade spool after most no_jobs =
     and_then (site_of system) (λ system.
     and_then (grade_of grade) (λ grade.
-    and_then (optional word_of spool) (λ spool. Ok (task.Pack system grade spool after no_jobs))))
+    and_then (optional word_of spool) (λ spool. Ok (task.Pack system grade spool after most no_jobs))))
 
 -- `unpack SENDER [SYSTEM..]`
 abbrev pub unpack_task : Text → List Text → Result Task LineFault
@@ -248,17 +248,25 @@ abbrev pub settle_task : Text → Option Text → Result Task LineFault
 settle_task system spool =
     and_then (site_of system) (λ system. and_then (optional word_of spool) (λ spool. Ok (task.Settle system spool)))
 
--- `answer SENDER [SYSTEM..] [-g GRADE] [--spool WORD] [--after JOB] [--no-jobs]`
-abbrev pub answer_task : Text → List Text → Text → Option Text → Option ℕ → Bool → Result Task LineFault
-answer_task sender onward grade spool after no_jobs =
+-- `answer SENDER [SYSTEM..] [-g GRADE] [--spool WORD] [--after JOB] [--most BYTES] [--no-jobs]`
+abbrev pub answer_task : Text → List Text → Text → Option Text → Option ℕ → Option ℕ → Bool → Result Task LineFault
+answer_task sender onward grade spool after most no_jobs =
     and_then (site_of sender) (λ sender.
     and_then (sites_of onward) (λ onward.
     and_then (grade_of grade) (λ grade.
-    and_then (optional word_of spool) (λ spool. Ok (task.Answer sender onward grade spool after no_jobs)))))
+    and_then (optional word_of spool) (λ spool. Ok (task.Answer sender onward grade spool after most no_jobs)))))
 
 -- `neighbours HOST`
 abbrev pub neighbours_task : Text → Result Task LineFault
 neighbours_task host = and_then (site_of host) (λ host. Ok (task.Neighbours host))
+
+-- `route [--cost] HOST`
+abbrev pub route_task : Text → Bool → Result Task LineFault
+route_task host costs = and_then (site_of host) (λ host. Ok (task.Routes (Some host) costs))
+
+-- `routes [--cost]`
+abbrev pub routes_task : Bool → Task
+routes_task costs = task.Routes None costs
 
 -- ---- the task of a subcommand with these entries, or the fault that is reported
 
@@ -313,7 +321,8 @@ MeansPack rows meant =
     WithText (codes "system") rows (λ system.
     WithText (codes "grade") rows (λ grade.
     (after : Option ℕ) × IsNumberOf 32 (first_of (codes "job") rows) after
-    × (meant ≡ pack_task system grade (first_of (codes "spool") rows) after (has_flag (codes "no-jobs") rows))))
+    × (most : Option ℕ) × IsNumberOf 32 (first_of (codes "most") rows) most
+    × (meant ≡ pack_task system grade (first_of (codes "spool") rows) after most (has_flag (codes "no-jobs") rows))))
 
 abbrev pub MeansUnpack : List Row → Result Task LineFault → Type 0
 MeansUnpack rows meant = WithText (codes "sender") rows (λ sender. meant ≡ unpack_task sender (texts_at (codes "system") rows))
@@ -326,10 +335,14 @@ MeansAnswer rows meant =
     WithText (codes "sender") rows (λ sender.
     WithText (codes "grade") rows (λ grade.
     (after : Option ℕ) × IsNumberOf 32 (first_of (codes "job") rows) after
-    × (meant ≡ answer_task sender (texts_at (codes "system") rows) grade (first_of (codes "spool") rows) after (has_flag (codes "no-jobs") rows))))
+    × (most : Option ℕ) × IsNumberOf 32 (first_of (codes "most") rows) most
+    × (meant ≡ answer_task sender (texts_at (codes "system") rows) grade (first_of (codes "spool") rows) after most (has_flag (codes "no-jobs") rows))))
 
 abbrev pub MeansNeighbours : List Row → Result Task LineFault → Type 0
 MeansNeighbours rows meant = WithText (codes "host") rows (λ host. meant ≡ neighbours_task host)
+
+abbrev pub MeansRoute : List Row → Result Task LineFault → Type 0
+MeansRoute rows meant = WithText (codes "host") rows (λ host. meant ≡ route_task host (has_flag (codes "cost") rows))
 
 -- no other name has a meaning
 abbrev pub MeansTask : Text → List Row → Result Task LineFault → Type 0
@@ -360,6 +373,8 @@ MeansTask name rows meant =
     ⊎ ((name ≡ codes "map") × (meant ≡ Ok task.Map))
     ⊎ ((name ≡ codes "neighbours") × MeansNeighbours rows meant)
     ⊎ ((name ≡ codes "name") × (meant ≡ Ok task.Name))
+    ⊎ ((name ≡ codes "route") × MeansRoute rows meant)
+    ⊎ ((name ≡ codes "routes") × (meant ≡ Ok (routes_task (has_flag (codes "cost") rows))))
 
 -- a task takes an input
 abbrev pub takes_input : Task → Bool
@@ -383,31 +398,32 @@ takes_input (task.Systems system) = false
 takes_input (task.Failed system why) = false
 takes_input (task.Done system jobs) = false
 takes_input (task.Forget system below) = false
-takes_input (task.Pack system grade spool after no_jobs) = false
+takes_input (task.Pack system grade spool after most no_jobs) = false
 takes_input (task.Unpack sender onward) = true
 takes_input (task.Settle system spool) = true
-takes_input (task.Answer sender onward grade spool after no_jobs) = true
+takes_input (task.Answer sender onward grade spool after most no_jobs) = true
 takes_input task.Map = true
 takes_input (task.Neighbours host) = false
 takes_input task.Name = false
+takes_input (task.Routes host costs) = false
 
 -- ---- lines
 
 -- a line, as these definitions see it
 pub record LineView : Type 0 where
-  pub config : Text
+  pub config : Option Text
   pub at : Option ℕ
   pub user : List ℕ
   pub task : Task
 
 abbrev pub line_view : CommandLine → LineView
-line_view line = record { config = string_bytes line.config; at = line.at; user = line.user; task = line.task }
+line_view line = record { config = option_map string_bytes line.config; at = line.at; user = line.user; task = line.task }
 
 abbrev pub line_or_fault : Result CommandLine LineFault → Result LineView LineFault
 line_or_fault (Ok line) = Ok (line_view line)
 line_or_fault (Err fault) = Err fault
 
-abbrev pub line_with : Text → Option ℕ → List ℕ → Result Task LineFault → Result LineView LineFault
+abbrev pub line_with : Option Text → Option ℕ → List ℕ → Result Task LineFault → Result LineView LineFault
 line_with config at user task = and_then task (λ task. Ok (record { config = config; at = at; user = user; task = task }))
 
 -- the task of the subcommand that was entered
@@ -416,7 +432,7 @@ MeansEntered None meant = ⊥
 MeansEntered (Some subcommand) meant = MeansTask subcommand.0 subcommand.1 meant
 
 -- the line of a user with a subcommand; the user is checked first
-abbrev pub MeansLineOf : Text → Option ℕ → Result (List ℕ) LineFault → Option (Text × List Row) → Result LineView LineFault → Type 0
+abbrev pub MeansLineOf : Option Text → Option ℕ → Result (List ℕ) LineFault → Option (Text × List Row) → Result LineView LineFault → Type 0
 MeansLineOf config at (Err fault) entered meant = meant ≡ Err fault
 MeansLineOf config at (Ok user) entered meant =
     (task : Result Task LineFault) × MeansEntered entered task × (meant ≡ line_with config at user task)
@@ -424,9 +440,9 @@ MeansLineOf config at (Ok user) entered meant =
 -- what entries mean, with the subcommand that was entered
 abbrev pub MeansEntries : List Row → Option (Text × List Row) → Result LineView LineFault → Type 0
 MeansEntries rows entered meant =
-    WithText (codes "config") rows (λ config.
     WithText (codes "as") rows (λ user.
-    (at : Option ℕ) × IsNumberOf 64 (first_of (codes "at") rows) at × MeansLineOf config at (word_of user) entered meant))
+    (at : Option ℕ) × IsNumberOf 64 (first_of (codes "at") rows) at
+    × MeansLineOf (first_of (codes "config") rows) at (word_of user) entered meant)
 
 -- What words mean that `clap` accepts, without the program's name: a line, or the first fault of
 -- its names.

@@ -35,6 +35,8 @@ enum Form<'a> {
     Second(&'a str),
     // An option of a name, whose value is a job's number.
     After(&'a str),
+    // An option of a name, whose value is a number of bytes.
+    Most(&'a str),
     // An option of a name, without a value.
     Flag(&'a str),
     // An argument by its place.
@@ -61,7 +63,7 @@ const CONFIG: Entry<'static> = Entry {
     id: "config",
     form: Form::Letter('c'),
     required: false,
-    defaults: &["uuspool.toml"],
+    defaults: &[],
     shown: "FILE",
     help: "The settings file",
 };
@@ -196,6 +198,26 @@ const AFTER: Entry<'static> = Entry {
     help: "Only jobs after this one, in order of grade and number",
 };
 
+// `--most BYTES`
+const MOST: Entry<'static> = Entry {
+    id: "most",
+    form: Form::Most("most"),
+    required: false,
+    defaults: &[],
+    shown: "BYTES",
+    help: "At most this many bytes, but always one job",
+};
+
+// `--cost`
+const COSTS: Entry<'static> = Entry {
+    id: "cost",
+    form: Form::Flag("cost"),
+    required: false,
+    defaults: &[],
+    shown: "",
+    help: "Prints the cost first",
+};
+
 // `--no-jobs`
 const NO_JOBS: Entry<'static> = Entry {
     id: "no-jobs",
@@ -230,15 +252,18 @@ const ONWARD: Entry<'static> = Entry {
 // tables. `scripts/check-tree` compares it with the file VERSION and with the tables.
 const VERSION: &str = "1.0.0, spool version 3";
 
-// The line that `main` knows by its words, before `clap` reads them.
-const BATCH: &str = "Many requests:
+// The lines that `main` knows by their words, before `clap` reads them.
+const BY_WORDS: &str = "The spool of a site:
+  uuspool [-c <FILE>] init   Makes the spool, once
+  uuspool [-c <FILE>] site   Prints where the site is: its name, settings, folder, spool and log
+Many requests:
   uuspool [-c <FILE>] batch  Reads requests from standard input and answers each in turn";
 
 // The options of the whole command.
 static OPTIONS: [Entry<'static>; 3] = [CONFIG, SECOND, USER];
 
 // The subcommands, in the order in which help lists them.
-static SUBCOMMANDS: [Subcommand<'static>; 26] = [
+static SUBCOMMANDS: [Subcommand<'static>; 28] = [
     Subcommand {
         name: "load",
         about: "Reads a sys file from standard input and defines its systems",
@@ -468,6 +493,7 @@ static SUBCOMMANDS: [Subcommand<'static>; 26] = [
             LOWEST,
             SPOOL,
             AFTER,
+            MOST,
             NO_JOBS,
         ],
     },
@@ -494,7 +520,7 @@ static SUBCOMMANDS: [Subcommand<'static>; 26] = [
     Subcommand {
         name: "answer",
         about: "Reads a bundle from standard input and prints the bundle that answers it",
-        entries: &[SENDER, ONWARD, LOWEST, SPOOL, AFTER, NO_JOBS],
+        entries: &[SENDER, ONWARD, LOWEST, SPOOL, AFTER, MOST, NO_JOBS],
     },
     Subcommand {
         name: "map",
@@ -518,6 +544,26 @@ static SUBCOMMANDS: [Subcommand<'static>; 26] = [
         about: "Prints the name of this site",
         entries: &[],
     },
+    Subcommand {
+        name: "route",
+        about: "Prints the cheapest route to a host, by the map",
+        entries: &[
+            COSTS,
+            Entry {
+                id: "host",
+                form: Form::One,
+                required: true,
+                defaults: &[],
+                shown: "HOST",
+                help: "The host to reach",
+            },
+        ],
+    },
+    Subcommand {
+        name: "routes",
+        about: "Prints the cheapest route to each host, by the map",
+        entries: &[COSTS],
+    },
 ];
 
 /// The whole command: its options, and its subcommands, of which one has to be there.
@@ -540,7 +586,7 @@ fn with_options<'a>(alloc: Global) -> Result<Command<'a>, AllocError>
     let bare = Command::new(alloc, "uuspool")
         .about("The job spool of a UUCP site")
         .version(VERSION)
-        .after_help(BATCH)
+        .after_help(BY_WORDS)
         .no_binary_name(true)
         .subcommand_required(true);
     with_entries(alloc, bare, &OPTIONS)
@@ -609,6 +655,7 @@ fn formed<'a>(alloc: Global, id: &'a str, form: Form<'a>) -> Arg<'a>
         Form::Name(name) => Arg::new(alloc, id).long(name),
         Form::Second(name) => Arg::new(alloc, id).long(name).value_parser(second()),
         Form::After(name) => Arg::new(alloc, id).long(name).value_parser(job()),
+        Form::Most(name) => Arg::new(alloc, id).long(name).value_parser(size()),
         Form::Flag(name) => Arg::new(alloc, id).long(name).action(ArgAction::SetTrue),
         Form::One => Arg::new(alloc, id),
         Form::Job => Arg::new(alloc, id).value_parser(job()),
@@ -623,6 +670,13 @@ fn job<'a>() -> ValueParser<'a>
     ensures { result ≡ Unsigned 0 4_294_967_295 }
 {
     clap::value_parser!(u64).range(0..=4_294_967_295)
+}
+
+// The numbers of bytes that a line may give.
+fn size<'a>() -> ValueParser<'a>
+    ensures { result ≡ Unsigned 1 4_294_967_295 }
+{
+    clap::value_parser!(u64).range(1..=4_294_967_295)
 }
 
 // The seconds that a line may give.

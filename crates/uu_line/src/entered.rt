@@ -3,7 +3,7 @@
 ghost use Rattle.std.specs.Prelude.{◌≡◌, ◌∷◌, [], IsSome, Ok, codes, drop, find};
 ghost use Rattle.std.specs.Str.{bytes_eq};
 ghost use Rattle.clap.specs.Words.{rows_of, found_of, first_of};
-ghost use Rattle.uu_line.specs.Internal.Entries.{AreNumbersUpTo, HaveTexts, IsEntered, most_job, subcommands};
+ghost use Rattle.uu_line.specs.Internal.Entries.{AreNumbersUpTo, HaveTexts, IsEntered, most_job, most_size, subcommands};
 ghost use Rattle.uu_line.specs.Lines.{texts_at};
 ghost use Rattle.uu_line.specs.Lines.{AnswersUnlessMemory, UnlessMemory, MeansTask};
 ghost use Rattle.uu_line.specs.Lines as spec;
@@ -11,11 +11,11 @@ ghost use Rattle.uu_line.specs.Lines as spec;
 use crate::fault::LineFault;
 use crate::reading::{
     answer_task, done_task, drop_task, due_task, execute_task, failed_task, forget_task, list_task,
-    mail_task, neighbours_task, pack_task, queues_task, regrade_task, request_task, send_task,
-    settle_task, systems_task, unpack_task, when_task,
+    mail_task, neighbours_task, pack_task, queues_task, regrade_task, request_task, route_task,
+    send_task, settle_task, systems_task, unpack_task, when_task,
 };
 use crate::task::Task;
-use crate::values::{after_in, has_flag, job_in, jobs_in, paths_in, terms_of, text_in};
+use crate::values::{after_in, has_flag, job_in, jobs_in, most_in, paths_in, terms_of, text_in};
 use clap::ArgMatches;
 use std::alloc::Global;
 
@@ -85,7 +85,7 @@ fn call_task_in(alloc: Global, name: &str, given: &ArgMatches<'_>) -> Result<Tas
     }
 }
 
-// The task of a subcommand of the map, or of `name`.
+// The task of a subcommand of the map or of the site.
 fn site_task_in(alloc: Global, name: &str, given: &ArgMatches<'_>) -> Result<Task, LineFault>
     requires entered { IsEntered name.now (rows_of (found_of given.now)) }
     requires later { IsSome (find (λ subcommand. bytes_eq subcommand.0 name.now) (drop 23 subcommands)) }
@@ -95,6 +95,8 @@ fn site_task_in(alloc: Global, name: &str, given: &ArgMatches<'_>) -> Result<Tas
         "map" => Ok(Task::Map),
         "neighbours" => neighbours_in(alloc, given),
         "name" => Ok(Task::Name),
+        "route" => route_in(alloc, given),
+        "routes" => Ok(routes_in(given)),
         _ => unreachable!(),
     }
 }
@@ -249,14 +251,16 @@ fn forget_in(alloc: Global, given: &ArgMatches<'_>) -> Result<Task, LineFault>
 fn pack_in(alloc: Global, given: &ArgMatches<'_>) -> Result<Task, LineFault>
     requires texts { HaveTexts (codes "system" ∷ codes "grade" ∷ []) (rows_of (found_of given.now)) }
     requires number { AreNumbersUpTo most_job (texts_at (codes "job") (rows_of (found_of given.now))) }
+    requires size { AreNumbersUpTo most_size (texts_at (codes "most") (rows_of (found_of given.now))) }
     ensures { UnlessMemory (spec.MeansPack (rows_of (found_of given.now))) result }
 {
     let system = text_in(given, "system");
     let grade = text_in(given, "grade");
     let spool = given.get_str("spool");
     let after = after_in(given);
+    let most = most_in(given);
     let no_jobs = has_flag(given, "no-jobs");
-    pack_task(alloc, system, grade, spool, after, no_jobs)
+    pack_task(alloc, system, grade, spool, after, most, no_jobs)
 }
 
 fn unpack_in(alloc: Global, given: &ArgMatches<'_>) -> Result<Task, LineFault>
@@ -276,14 +280,16 @@ fn settle_in(alloc: Global, given: &ArgMatches<'_>) -> Result<Task, LineFault>
 fn answer_in(alloc: Global, given: &ArgMatches<'_>) -> Result<Task, LineFault>
     requires texts { HaveTexts (codes "sender" ∷ codes "grade" ∷ []) (rows_of (found_of given.now)) }
     requires number { AreNumbersUpTo most_job (texts_at (codes "job") (rows_of (found_of given.now))) }
+    requires size { AreNumbersUpTo most_size (texts_at (codes "most") (rows_of (found_of given.now))) }
     ensures { UnlessMemory (spec.MeansAnswer (rows_of (found_of given.now))) result }
 {
     let sender = text_in(given, "sender");
     let grade = text_in(given, "grade");
     let spool = given.get_str("spool");
     let after = after_in(given);
+    let most = most_in(given);
     let no_jobs = has_flag(given, "no-jobs");
-    answer_task(alloc, sender, given, grade, spool, after, no_jobs)
+    answer_task(alloc, sender, given, grade, spool, after, most, no_jobs)
 }
 
 fn neighbours_in(alloc: Global, given: &ArgMatches<'_>) -> Result<Task, LineFault>
@@ -291,4 +297,20 @@ fn neighbours_in(alloc: Global, given: &ArgMatches<'_>) -> Result<Task, LineFaul
     ensures { UnlessMemory (spec.MeansNeighbours (rows_of (found_of given.now))) result }
 {
     neighbours_task(alloc, text_in(given, "host"))
+}
+
+fn route_in(alloc: Global, given: &ArgMatches<'_>) -> Result<Task, LineFault>
+    requires { HaveTexts (codes "host" ∷ []) (rows_of (found_of given.now)) }
+    ensures { UnlessMemory (spec.MeansRoute (rows_of (found_of given.now))) result }
+{
+    let host = text_in(given, "host");
+    let costs = has_flag(given, "cost");
+    route_task(alloc, host, costs)
+}
+
+fn routes_in(given: &ArgMatches<'_>) -> Task
+    ensures { result ≡ spec.routes_task (spec.has_flag (codes "cost") (rows_of (found_of given.now))) }
+{
+    let costs = has_flag(given, "cost");
+    Task::Routes { host: None, costs }
 }

@@ -6,6 +6,7 @@ mod commands;
 mod entered;
 mod fault;
 mod line;
+mod misread;
 mod origin;
 mod reading;
 mod task;
@@ -13,5 +14,6 @@ mod values;
 
 pub use fault::LineFault;
 pub use line::{CommandLine, line_of};
+pub use misread::{Misread, Wanted, misread_in};
 pub use origin::Origin;
 pub use task::Task;

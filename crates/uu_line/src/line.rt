@@ -12,7 +12,7 @@ use crate::commands::program_command;
 use crate::entered::task_in;
 use crate::fault::LineFault;
 use crate::task::Task;
-use crate::values::{second_in, string_of, text_in, word_of};
+use crate::values::{config_in, second_in, text_in, word_of};
 use clap::ArgMatches;
 use clap::error::ErrorKind;
 use std::alloc::Global;
@@ -21,8 +21,8 @@ use uu_names::Word;
 /// One line of the program.
 #[derive(Drop)]
 pub struct CommandLine {
-    /// The path of the settings file of `-c`, `uuspool.toml` if it is not given.
-    pub config: String,
+    /// The path of the settings file of `-c`, if it is given.
+    pub config: Option<String>,
     /// The second of `--at`, UTC, if it is given.
     pub at: Option<u64>,
     /// The user of `--as`, `uucp` if it is not given.
@@ -53,11 +53,10 @@ fn line_in(alloc: Global, given: &ArgMatches<'_>) -> Result<CommandLine, LineFau
     requires { AreLineEntries (rows_of (found_of given.now)) (subcommand_rows_of given.now) }
     ensures { UnlessMemory (λ answer. spec.MeansEntries (rows_of (found_of given.now)) (subcommand_rows_of given.now) (spec.line_or_fault answer)) result }
 {
-    let config = text_in(given, "config");
     let at = second_in(given);
     let user = word_of(alloc, text_in(given, "as"))?;
     let task = entered_in(alloc, given)?;
-    let config = string_of(alloc, config)?;
+    let config = config_in(alloc, given)?;
     Ok(CommandLine {
         config,
         at,
@@ -66,8 +65,11 @@ fn line_in(alloc: Global, given: &ArgMatches<'_>) -> Result<CommandLine, LineFau
     })
 }
 
-// The entries that `clap` finds.
-fn entries_of<'a>(alloc: Global, words: &'a [String]) -> Result<ArgMatches<'a>, LineFault>
+/// The entries that `clap` finds.
+pub(crate) fn entries_of<'a>(
+    alloc: Global,
+    words: &'a [String],
+) -> Result<ArgMatches<'a>, LineFault>
     ensures entries { IfOk result (λ found. HasEntriesOf (map string_bytes words.now) found) }
     ensures refused { IfErr result (IsWordsOf (λ kind. IsAmong kind (fault_of program (map string_bytes words.now)))) }
 {

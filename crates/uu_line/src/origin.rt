@@ -41,9 +41,9 @@ pub(crate) fn origin_of(alloc: Global, text: &str) -> Result<Origin, LineFault>
     })
 }
 
-// The parts of a text before its first `!`, between that and its second, and after the second, if
-// it has one.
-fn parts_of(text: &str) -> (&str, &str, Option<&str>)
+/// The parts of a text before its first `!`, between that and its second, and after the second, if
+/// it has one.
+pub(crate) fn parts_of(text: &str) -> (&str, &str, Option<&str>)
     ensures site { result.0.now ≡ first_hop text.now }
     ensures number { result.1.now ≡ first_hop (rest_of text.now) }
     ensures word { option_map (λ word. word.now) result.2 ≡ after_bang (rest_of text.now) }

@@ -274,9 +274,10 @@ pub(crate) fn pack_task(
     grade: &str,
     spool: Option<&str>,
     after: Option<u32>,
+    most: Option<u32>,
     no_jobs: bool,
 ) -> Result<Task, LineFault>
-    ensures { AnswersUnlessMemory result (spec.pack_task system.now grade.now (option_map (λ text. text.now) spool.entry) after no_jobs) }
+    ensures { AnswersUnlessMemory result (spec.pack_task system.now grade.now (option_map (λ text. text.now) spool.entry) after most no_jobs) }
 {
     let system = site_of(alloc, system)?;
     let lowest = grade_of(grade)?;
@@ -286,6 +287,7 @@ pub(crate) fn pack_task(
         grade: lowest,
         spool,
         after,
+        most,
         no_jobs,
     })
 }
@@ -327,9 +329,10 @@ pub(crate) fn answer_task(
     grade: &str,
     spool: Option<&str>,
     after: Option<u32>,
+    most: Option<u32>,
     no_jobs: bool,
 ) -> Result<Task, LineFault>
-    ensures { AnswersUnlessMemory result (spec.answer_task sender.now (texts_at (codes "system") (rows_of (found_of given.now))) grade.now (option_map (λ text. text.now) spool.entry) after no_jobs) }
+    ensures { AnswersUnlessMemory result (spec.answer_task sender.now (texts_at (codes "system") (rows_of (found_of given.now))) grade.now (option_map (λ text. text.now) spool.entry) after most no_jobs) }
 {
     let sender = site_of(alloc, sender)?;
     let onward = sites_in(alloc, given, "system")?;
@@ -341,6 +344,7 @@ pub(crate) fn answer_task(
         grade,
         spool,
         after,
+        most,
         no_jobs,
     })
 }
@@ -352,4 +356,16 @@ pub(crate) fn neighbours_task(alloc: Global, host: &str) -> Result<Task, LineFau
 {
     let host = site_of(alloc, host)?;
     Ok(Task::Neighbours { host })
+}
+
+/// The task of `route`.
+#[tactic(auto, using(crate::proofs::LineLemmas::answers_then))]
+pub(crate) fn route_task(alloc: Global, host: &str, costs: bool) -> Result<Task, LineFault>
+    ensures { AnswersUnlessMemory result (spec.route_task host.now costs) }
+{
+    let host = site_of(alloc, host)?;
+    Ok(Task::Routes {
+        host: Some(host),
+        costs,
+    })
 }

@@ -151,8 +151,8 @@ pub enum Task {
         /// The lowest number that the neighbour may still hand on.
         below: u32,
     },
-    /// `pack SYSTEM [-g GRADE] [--spool WORD] [--after JOB] [--no-jobs]`: reports the bundle for
-    /// the system: which of its jobs were taken here, and the jobs that wait for it.
+    /// `pack SYSTEM [-g GRADE] [--spool WORD] [--after JOB] [--most BYTES] [--no-jobs]`: reports the
+    /// bundle for the system: which of its jobs were taken here, and the jobs that wait for it.
     Pack {
         /// The neighbour that the bundle is for.
         system: SiteName,
@@ -162,6 +162,8 @@ pub enum Task {
         spool: Option<Word>,
         /// The job after which the jobs begin, if one is given.
         after: Option<u32>,
+        /// The most bytes of the bundle, if that is given.
+        most: Option<u32>,
         /// Whether the jobs are left out.
         no_jobs: bool,
     },
@@ -180,8 +182,9 @@ pub enum Task {
         /// Which of this site's spools numbers the jobs, if the line says it.
         spool: Option<Word>,
     },
-    /// `answer SENDER [SYSTEM..] [-g GRADE] [--spool WORD] [--after JOB] [--no-jobs]`: reads the
-    /// sender's bundle from the input, and reports the bundle for the sender that answers it.
+    /// `answer SENDER [SYSTEM..] [-g GRADE] [--spool WORD] [--after JOB] [--most BYTES]
+    /// [--no-jobs]`: reads the sender's bundle from the input, and reports the bundle for the sender
+    /// that answers it.
     Answer {
         /// The neighbour whose bundle it is.
         sender: SiteName,
@@ -193,6 +196,8 @@ pub enum Task {
         spool: Option<Word>,
         /// The job after which the jobs begin, if one is given.
         after: Option<u32>,
+        /// The most bytes of the bundle, if that is given.
+        most: Option<u32>,
         /// Whether the jobs are left out.
         no_jobs: bool,
     },
@@ -205,6 +210,14 @@ pub enum Task {
     },
     /// `name`: prints the site's own name.
     Name,
+    /// `route [--cost] HOST` or `routes [--cost]`: prints the route to a host, or the routes to all
+    /// hosts.
+    Routes {
+        /// The host, if one is given.
+        host: Option<SiteName>,
+        /// Whether each line begins with the cost.
+        costs: bool,
+    },
 }
 
 impl Task {
@@ -239,7 +252,8 @@ impl Task {
             | Task::Forget { .. }
             | Task::Pack { .. }
             | Task::Neighbours { .. }
-            | Task::Name => false,
+            | Task::Name
+            | Task::Routes { .. } => false,
         }
     }
 }

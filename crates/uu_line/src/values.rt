@@ -5,7 +5,7 @@ ghost use Rattle.std.specs.String.{string_bytes};
 ghost use Rattle.clap.specs.ValueTests.{is_unsigned_in};
 ghost use Rattle.clap.specs.Words.{first_of, rows_of, found_of};
 ghost use Rattle.uu_names.specs.Path.{IsPathText};
-ghost use Rattle.uu_line.specs.Internal.Entries.{AreNumbersUpTo, most_job, most_second};
+ghost use Rattle.uu_line.specs.Internal.Entries.{AreNumbersUpTo, most_job, most_second, most_size};
 ghost use Rattle.uu_line.specs.Lines.{texts_at};
 ghost use Rattle.uu_line.specs.Lines.{AnswersUnlessMemory, AreNumbers, IsNumber, IsNumberOf, WithText};
 ghost use Rattle.uu_line.specs.Lines as spec;
@@ -33,7 +33,21 @@ pub(crate) fn job_in(given: &ArgMatches<'_>) -> u32
     requires number { AreNumbersUpTo most_job (texts_at (codes "job") (rows_of (found_of given.now))) }
     ensures { WithText (codes "job") (rows_of (found_of given.now)) (λ text. IsNumber 32 text result) }
 {
-    job_of(text_in(given, "job"))
+    number_of(text_in(given, "job"))
+}
+
+/// The path of `-c`, if it is given.
+pub(crate) fn config_in(alloc: Global, given: &ArgMatches<'_>) -> Result<Option<String>, LineFault>
+    ensures path { IfOk result (λ path. option_map string_bytes path ≡ first_of (codes "config") (rows_of (found_of given.now))) }
+    ensures memory { IfErr result (λ fault. fault ≡ LineFault.Memory) }
+{
+    match given.get_str("config") {
+        Some(path) => match string_of(alloc, path) {
+            Ok(path) => Ok(Some(path)),
+            Err(fault) => Err(fault),
+        },
+        None => Ok(None),
+    }
 }
 
 /// The second of `--at`, if it is given.
@@ -53,7 +67,18 @@ pub(crate) fn after_in(given: &ArgMatches<'_>) -> Option<u32>
     ensures { IsNumberOf 32 (first_of (codes "job") (rows_of (found_of given.now))) result }
 {
     match given.get_str("job") {
-        Some(text) => Some(job_of(text)),
+        Some(text) => Some(number_of(text)),
+        None => None,
+    }
+}
+
+/// The bytes of `--most`, if they are given.
+pub(crate) fn most_in(given: &ArgMatches<'_>) -> Option<u32>
+    requires { AreNumbersUpTo most_size (texts_at (codes "most") (rows_of (found_of given.now))) }
+    ensures { IsNumberOf 32 (first_of (codes "most") (rows_of (found_of given.now))) result }
+{
+    match given.get_str("most") {
+        Some(text) => Some(number_of(text)),
         None => None,
     }
 }
@@ -88,13 +113,13 @@ fn jobs_of(alloc: Global, texts: &[&str]) -> Result<Listed<u32>, LineFault>
 {
     let mut jobs = Vec::new(alloc);
     for text in texts {
-        jobs.push(job_of(text))?;
+        jobs.push(number_of(text))?;
     }
     Ok(Listed::from_vec(jobs))
 }
 
-// The number of a job.
-fn job_of(text: &str) -> u32
+// The number of a job, or of bytes.
+fn number_of(text: &str) -> u32
     requires { IsTrue (is_unsigned_in 0 most_job text.now) }
     ensures { IsNumber 32 text.now result }
 {
@@ -114,8 +139,8 @@ fn second_of(text: &str) -> u64
     }
 }
 
-/// The text as a string.
-pub(crate) fn string_of(alloc: Global, text: &str) -> Result<String, LineFault>
+// The text as a string.
+fn string_of(alloc: Global, text: &str) -> Result<String, LineFault>
     ensures text { IfOk result (λ string. string_bytes string ≡ text.now) }
     ensures memory { IfErr result (λ fault. fault ≡ LineFault.Memory) }
 {
@@ -304,8 +329,8 @@ fn paths_of(alloc: Global, texts: &[&str]) -> Result<Vec<Path>, LineFault>
     Ok(paths)
 }
 
-// The text as a bang path.
-fn path_of(alloc: Global, text: &str) -> Result<Path, LineFault>
+/// The text as a bang path.
+pub(crate) fn path_of(alloc: Global, text: &str) -> Result<Path, LineFault>
     ensures path { IfOk result (λ path. (path ≡ text.now) × IsPathText text.now) }
     ensures fault { IfErr result (spec.IsAddressFault (text.now ∷ [])) }
 {

@@ -6,7 +6,7 @@ use Rattle.std.specs.Ordering.{is_eq, ordering_then}
 use Rattle.std.proofs.lemmas.List.Sorted.{IsPermutation-sym}
 use Rattle.std.proofs.lemmas.Map.Text.{is_eq-slice_cmp}
 use Rattle.std.proofs.lemmas.Option.{slice_get-map}
-use Rattle.uu_names.proofs.Basics.{int_cmp-pos, int_eq-pos, lt-nat_cmp, find-map}
+use Rattle.uu_names.proofs.Basics.{int_cmp-pos, int_eq-pos, lt-nat_cmp, find-map, filter_all}
 use Rattle.sqlite.specs.declared.types.Value.{Value}
 use Rattle.sqlite.specs.declared.types.Value.TheVariants.{Null, Int, Text, Blob}
 use Rattle.sqlite.specs.Order.{Row}
@@ -29,7 +29,7 @@ use Rattle.uu_schema.proofs.Asks.{ordered}
 use Rattle.uu_schema.proofs.Answers.{answer_of}
 use Rattle.uu_schema.proofs.Sorted.{IsPermutation-insert_sorted}
 use Rattle.uu_core.specs.declared.job.JobHead.{JobHead}
-use Rattle.uu_core.specs.State.{State, Job, IsWellFormed, head_of, entry_at, same_text}
+use Rattle.uu_core.specs.State.{State, Job, MapEntry, IsWellFormed, head_of, entry_at, same_text}
 use Rattle.uu_tables.specs.declared.rows.EntryColumns.{EntryColumns}
 use Rattle.uu_tables.specs.Tables.{Piece, tables_of, entry_columns}
 use Rattle.uu_schema.specs.Schema.{spool_schema, jobs, pieces}
@@ -41,9 +41,9 @@ use Rattle.uu_questions.specs.Answers.{IsStateOf}
 use Rattle.uu_questions.specs.Listing.{is_wanted, fits, WantsAll, by_rank, listed_jobs}
 use Rattle.uu_tables.specs.Order.{piece_cmp, entry_cmp}
 use Rattle.uu_rows.specs.Readable.{IsTypedHead}
-use Rattle.uu_questions.proofs.Texts.{all_jobs_text, jobs_text, pieces_text, entry_text}
+use Rattle.uu_questions.proofs.Texts.{all_jobs_text, jobs_text, pieces_text, entry_text, entries_text}
 use Rattle.uu_rows.proofs.Meanings.{at_places, by_places}
-use Rattle.uu_questions.proofs.Meanings.{fit_terms, all_jobs_means, jobs_means, pieces_means, entry_means}
+use Rattle.uu_questions.proofs.Meanings.{fit_terms, all_jobs_means, jobs_means, pieces_means, entry_means, entries_means}
 use Rattle.uu_rows.proofs.Comparing.{beside, numbered}
 use Rattle.uu_rows.proofs.Typed.{typed_sorted, typed_only}
 use Rattle.uu_rows.proofs.InTables.{entries_are}
@@ -51,6 +51,7 @@ use Rattle.uu_rows.proofs.InOrder.{ascending_pairs}
 use Rattle.uu_rows.proofs.Back.{same_all, same_one, head_back, head_returns, entry_back, entry_returns}
 use Rattle.uu_rows.proofs.Heads.{heads_good}
 use Rattle.uu_questions.proofs.Rising.{pieces_rise}
+use Rattle.uu_questions.proofs.SystemRows.{same_cells}
 
 -- what the question is given: the system and the user, each NULL if none is wanted
 abbrev pub sought : Filter → Row
@@ -135,6 +136,14 @@ entry_found old new s host rows of h found read =
     same_one entry_cells entry_back (λ _. ⊤) (λ e _. entry_returns e) found (find p es) (any_some found) (any_some (find p es))
     (read ∙ ap (λ rs. slice_get rs 0) is ∙ slice_get-map entry_cells (filter p es) 0 ∙ ap (option_map entry_cells) (slice_get-filter p es))
     ∙ find-map p entry_columns s.entries
+
+pub entries_found : (old new : db.State) (s : State) (rows : List Row) → IsStateOf s old → db.Shown entries_text [] old new rows → (found : List EntryColumns) → rows ≡ map entry_cells found → found ≡ map entry_columns s.entries
+entries_found old new s rows of h found read =
+    let es = map entry_columns s.entries in
+    let rise : IsAscending (λ x y. entry_cmp x y ≡ Less) es = ascending-map (λ x y. entry_cmp x y ≡ Less) entry_columns s.entries (ascending_pairs _ s.entries of.good.by_host) in
+    same_cells entry_cells entry_back entry_returns found _ (sym read
+    ∙ entries_are spool_schema old new rows of.stands.schema entries_text _ [] [] h entries_means (λ r. refl) es of.holds.entries.same rise (λ x. true) (λ x. refl))
+    ∙ filter_all es
 
 -- ---- the bytes of a job
 

@@ -13,7 +13,7 @@ use Rattle.uu_schema.proofs.Terms.{over, where_is, equal_terms}
 use Rattle.uu_schema.proofs.Asks.{Means, ordered}
 use Rattle.uu_schema.specs.Queries.{IsQuery}
 use Rattle.uu_schema.specs.Schema.{spool_schema, spool, systems, lines, ranges, jobs, pieces, entries, success_waits, links, taken}
-use Rattle.uu_questions.proofs.Texts.{next_text, known_text, waiting_text, head_text, system_text, lines_of_text, ranges_of_text, waits_of_text, link_text, taken_text, all_jobs_text, jobs_text, pieces_text, entry_text, taken_from_text, held_text, open_text, due_jobs_text}
+use Rattle.uu_questions.proofs.Texts.{next_text, known_text, waiting_text, head_text, system_text, lines_of_text, ranges_of_text, waits_of_text, link_text, taken_text, all_jobs_text, jobs_text, pieces_text, entry_text, entries_text, taken_from_text, held_text, open_text, due_jobs_text}
 use Rattle.uu_rows.proofs.Meanings.{at_places, by_places, is_first, head_names, system_names, line_names, range_names, wait_names, link_names, taken_names}
 
 -- ---- before a command
@@ -90,6 +90,10 @@ pieces_means = record { command = refl; plain = (refl, refl); listing = refl }
 pub entry_means : Means spool_schema entry_text (ordered entries.tree (where_is 1 0 ∷ []) (at_places (1 ∷ 2 ∷ [])) (by_places (1 ∷ []))) (codes "host" ∷ codes "bytes" ∷ [])
 unfolding understood everything
 entry_means = record { command = refl; plain = (refl, refl); listing = refl }
+
+pub entries_means : Means spool_schema entries_text (ordered entries.tree [] (at_places (1 ∷ 2 ∷ [])) (by_places (1 ∷ []))) (codes "host" ∷ codes "bytes" ∷ [])
+unfolding understood everything
+entries_means = record { command = refl; plain = (refl, refl); listing = refl }
 
 pub taken_from_means : Means spool_schema taken_from_text (ordered taken.tree (where_is 1 0 ∷ []) (at_places (1 ∷ 2 ∷ 3 ∷ 4 ∷ [])) (by_places (1 ∷ 2 ∷ []))) taken_names
 unfolding understood everything

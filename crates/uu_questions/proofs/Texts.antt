@@ -47,6 +47,9 @@ pieces_text = codes "SELECT bytes FROM pieces WHERE job = ?1 ORDER BY job, place
 abbrev pub entry_text : List ℕ
 entry_text = codes "SELECT host, bytes FROM entries WHERE host = ?1 ORDER BY host"
 
+abbrev pub entries_text : List ℕ
+entries_text = codes "SELECT host, bytes FROM entries ORDER BY host"
+
 abbrev pub taken_from_text : List ℕ
 taken_from_text = codes "SELECT system, number, mark, job FROM taken WHERE system = ?1 ORDER BY system, number"
 

@@ -19,7 +19,7 @@ mod walk;
 
 pub use bundle::facts_for_take_in;
 pub use due::systems_due;
-pub use entries::entry_of_host;
+pub use entries::{all_entries, entry_of_host};
 pub use facts::{facts_for, next_number, refusal_of};
 pub use jobs::{job_of_number, list_jobs};
 pub use systems::all_systems;

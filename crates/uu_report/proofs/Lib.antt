@@ -1,3 +1,4 @@
 pub mod Letters
+pub mod LogLemmas
 pub mod ReportLemmas
 pub mod SettledLemmas

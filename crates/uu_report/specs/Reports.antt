@@ -1,6 +1,6 @@
 -- The reports of jobs, of what is due, of next calls, of queues, of systems and of links. Their
 -- forms are this project's choice; the civil calendar is that of `jiff_core`.
-use Rattle.std.specs.Prelude.{◌≡◌, ℕ, ◌≤◌, ◌-◌, All, Option, Some, List, [], ◌∷◌, ◌++◌, None, codes, length, map, slice_get, option_to_list}
+use Rattle.std.specs.Prelude.{◌≡◌, ℕ, ◌≤◌, ◌-◌, Bool, true, false, All, Option, Some, List, [], ◌∷◌, ◌++◌, None, codes, length, map, slice_get, option_to_list}
 use Rattle.std.specs.Fmt.{decimal}
 use Rattle.std.specs.List.{concat, flat_map}
 use Rattle.jiff_core.specs.DateTime.{civil_nanos}
@@ -14,6 +14,7 @@ use Rattle.uu_map.specs.declared.entry.Cost.{Cost}
 use Rattle.uu_map.specs.declared.entry.Cost.TheVariants.{Value, Dead}
 use Rattle.uu_map.specs.declared.entry.Link.{Link}
 use Rattle.uu_map.specs.declared.entry.Entry.{Entry}
+use Rattle.uu_routes.specs.declared.site.SiteRoute.{SiteRoute}
 use Rattle.uu_bundle.specs.declared.bundle.Refused.{Refused}
 use Rattle.uu_core.specs.Refusal.{refusal_name}
 use Rattle.uu_core.specs.State.{most_done}
@@ -191,6 +192,23 @@ skipped_text line = line_of (codes "skipped" ∷ decimal line ∷ [])
 -- statements
 abbrev pub links_text : Entry → List ℕ
 links_text entry = flat_map link_text entry.links ++ flat_map alias_text entry.aliases ++ flat_map skipped_text entry.skipped
+
+-- ---- routes (the form of pathalias's output)
+
+-- `unc!phs!%s`
+abbrev pub site_text : List ℕ → List ℕ
+site_text site = site ++ codes "!"
+
+abbrev pub path_text : List (List ℕ) → List ℕ
+path_text sites = flat_map site_text sites ++ codes "%s"
+
+abbrev pub cost_first : Bool → ℕ → List ℕ
+cost_first true cost = decimal cost ++ 9 ∷ []
+cost_first false cost = []
+
+-- the host, a tab and its route; with costs, the cost and a tab come first
+abbrev pub route_text : Bool → SiteRoute → List ℕ
+route_text costs route = cost_first costs route.cost ++ (route.host ++ (9 ∷ (path_text route.sites ++ 10 ∷ [])))
 
 -- ---- what is settled
 

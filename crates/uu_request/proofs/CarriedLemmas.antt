@@ -1,10 +1,14 @@
 -- The commands of a bundle are steps of custody.
-use Rattle.std.proofs.Common.{◌≡◌, ◌∙◌, ◌&&◌, ap, sym, subst, refl, Bool, true, false, cond, true≢false, nat_eq, ℕ, List, [], ◌∷◌, ◌++◌, length, map, Option, Some, None, is_some, Result, Ok, Err, unwrap_or, codes}
-use Rattle.std.specs.Prelude.{find, nat_le}
+use Rattle.std.proofs.Common.{◌≡◌, ◌∙◌, ◌&&◌, ap, sym, subst, refl, Bool, true, false, cond, true≢false, nat_eq, ℕ, List, [], ◌∷◌, ◌++◌, append_assoc, length, drop, arith, map, Option, Some, None, is_some, Result, Ok, Err, unwrap_or, codes}
+use Rattle.std.specs.Prelude.{◌-◌, find, nat_le, take}
+use Rattle.std.proofs.Math.Seq.{drop-append_seam}
+use Rattle.std.proofs.lemmas.List.{length-append}
 use Rattle.std.specs.List.{All, ends_with, list_all}
+use Rattle.std.specs.Cmp.Lexicographic.{pointwise}
 use Rattle.std.proofs.lemmas.Bool.{or_right, or_left}
 use Rattle.uu_names.specs.Envelope.{envelope_of, from_line, quote_of}
-use Rattle.uu_names.proofs.Basics.{text_from}
+use Rattle.uu_names.specs.Name.{is_site_name}
+use Rattle.uu_names.proofs.Basics.{text_from, text_to}
 use Rattle.uu_times.specs.declared.moment.Moment.{Moment}
 use Rattle.std.proofs.lemmas.List.Elements.{All-cons, All-nil, All-tail, All-head}
 use Rattle.uu_handover.specs.Bundles.{Packed}
@@ -15,6 +19,7 @@ use Rattle.uu_core.specs.declared.command.Command.TheVariants.{Forget, QueueOnce
 use Rattle.uu_core.specs.declared.job.Kind.{Kind}
 use Rattle.uu_core.specs.declared.job.Kind.TheVariants as kind
 use Rattle.uu_core.specs.declared.job.NewJob.{NewJob}
+use Rattle.uu_core.specs.declared.take_in.Offered.{Offered}
 use Rattle.uu_bundle.specs.Bundles.{heading_of}
 use Rattle.uu_bundle.specs.Reading.{IsRead, jobs_in}
 use Rattle.uu_bundle.specs.Texts.{IsParcel, IsRecord}
@@ -25,9 +30,8 @@ use Rattle.uu_bundle.specs.declared.bundle.Record.{Record}
 use Rattle.uu_bundle.specs.declared.bundle.Record.TheVariants.{Has, No, Job}
 use Rattle.uu_line.specs.Lines.{same_text}
 use Rattle.uu_settings.specs.declared.settings.Settings.{Settings}
-use Rattle.uu_request.specs.Carried.{AreUnpacked, bundle_crossing, carried, is_unpacked, packed_job, said_of}
-use Rattle.uu_request.specs.Receivers.{is_job_of}
-use Rattle.uu_request.specs.Unpacking.{IsBundleBetween, answer, is_by_way_of, job_made, made_of, message_to, next_hop, offered, own_job, passed_on, rests_of, settle, spool_of, queue_once_command, unpack, user_of, wrong_sites}
+use Rattle.uu_request.specs.Carried.{AreUnpacked, bundle_crossing, carried, is_job_of, is_unpacked, packed_job, said_of, same_kind}
+use Rattle.uu_request.specs.Unpacking.{IsBundleBetween, IsUserAt, answer, is_by_way_of, job_made, made_of, message_to, next_hop, offered, own_job, passed_on, rests_of, settle, spool_of, queue_once_command, unpack, user_of, wrong_sites}
 use Rattle.uu_request.specs.declared.fault.RequestFault.{RequestFault}
 use Rattle.uu_request.specs.declared.fault.WrongBundle.TheVariants.{OtherSender, OtherSite}
 use Rattle.uu_request.specs.declared.request.Answering.{Answering}
@@ -38,7 +42,42 @@ use Rattle.uu_request.specs.declared.request.Request.TheVariants as request
 use Rattle.uu_request.specs.declared.request.Settling.{Settling}
 use Rattle.uu_request.specs.declared.request.Unpacking.{Unpacking}
 use Rattle.uu_request.proofs.Lists.{mapped_twice}
-use Rattle.uu_request.proofs.ReceiverLemmas.{mailed, with_bytes}
+use Rattle.uu_request.proofs.WordLemmas.{user_at}
+
+-- ---- a job that is made anew
+
+all_same : (texts : List (List ℕ)) → pointwise same_text texts texts ≡ true
+all_same [] = refl
+all_same (text ∷ texts) = rw (text_to text) (all_same texts)
+
+kind_same : (k : Kind) → same_kind k k ≡ true
+kind_same (kind.Send source target) = rw (text_to source, text_to target) refl
+kind_same (kind.Request source target) = rw (text_to source, text_to target) refl
+kind_same (kind.Execute command arguments) = rw (text_to command, all_same arguments) refl
+
+abbrev job_with : List ℕ → List ℕ → ℕ → Kind → List ℕ → Moment → NewJob
+job_with user system grade k bytes at = record { system = system; grade = grade; user = user; kind = k; bytes = bytes; at = at }
+
+is_its : (user system : List ℕ) (grade : ℕ) (k : Kind) (bytes : List ℕ) (at : Moment) → is_job_of user system k (job_with user system grade k bytes at) ≡ true
+is_its user system grade k bytes at = rw (text_to user, text_to system, kind_same k) refl
+
+with_bytes : (user system : List ℕ) (grade : ℕ) (k : Kind) (bytes : List ℕ) (at : Moment)
+    → (is_job_of user system k (job_with user system grade k bytes at) && same_text bytes bytes) ≡ true
+with_bytes user system grade k bytes at = rw (is_its user system grade k bytes at, text_to bytes) refl
+
+-- the bytes of a message end with it
+ends_so : (front back : List ℕ) → ends_with nat_eq (front ++ back) back ≡ true
+ends_so front back =
+    let behind : length (front ++ back) - length back ≡ length front = omega (arith, length-append front back) in
+    ap (λ n. same_text back (drop n (front ++ back))) behind ∙ ap (same_text back) (drop-append_seam front back) ∙ text_to back
+
+mailed : (user system : List ℕ) (grade : ℕ) (rests : List (List ℕ)) (line input : List ℕ) (at : Moment)
+    → (let k = kind.Execute (codes "rmail") rests in
+    is_job_of user system k (job_with user system grade k (line ++ quote_of input ++ input) at) && ends_with nat_eq (line ++ quote_of input ++ input) (quote_of input ++ input)) ≡ true
+mailed user system grade rests line input at =
+    let bytes = line ++ quote_of input ++ input in
+    ap (λ b. b && ends_with nat_eq bytes (quote_of input ++ input)) (is_its user system grade (kind.Execute (codes "rmail") rests) bytes at)
+    ∙ ap (λ b. ends_with nat_eq b (quote_of input ++ input)) (append_assoc line (quote_of input) input) ∙ ends_so line (quote_of input ++ input)
 
 -- ---- whose bundle it is
 
@@ -106,6 +145,14 @@ module _ (settings : Settings) (at : Moment) (from : List ℕ) (parcel : Parcel)
       go : (b : Bool) → is_unpacked from settings.name (carried parcel) (unwrap_or (cond b (Some (message_to settings at user parcel system)) None) (own_job settings at user parcel)) ≡ true
       go true = message_is onward system is
       go false = own_is
+
+  user_made : (hop : Option (List ℕ)) → (unwrap_or (passed_on settings at user parcel hop) (own_job settings at user parcel)).user ≡ user
+  user_made None = refl
+  user_made (Some system) = go (nat_le (length (envelope_of user at.local settings.name parcel.bytes)) most_bytes)
+    where
+      go : (b : Bool) → (unwrap_or (cond b (Some (message_to settings at user parcel system)) None) (own_job settings at user parcel)).user ≡ user
+      go true = refl
+      go false = refl
 
 -- ---- a bundle
 
@@ -232,3 +279,26 @@ answers settings at input onward packing it (Ok bundle) is_said asked =
       subst (λ taking. AreUnpacked (bundle_crossing bundle.from bundle.to bundle.spool) (said_of bundle) (Forget bundle.from bundle.below ∷ taking)) (sym commands)
           (are_unpacked settings at input packing.system onward bundle is_said.0 sites.0 sites.1),
     )
+
+-- ---- whose jobs
+
+-- the jobs of a bundle that is to be taken
+abbrev jobs_taken : Result Request RequestFault → List Offered
+jobs_taken (Ok (request.Unpacking it)) = it.bundle.jobs
+jobs_taken _ = []
+
+module _ (settings : Settings) (at : Moment) (from : List ℕ) (onward : List (List ℕ)) (named : is_site_name from ≡ true) where
+  user_each : (jobs : List Parcel) → All (λ one. IsUserAt from one.job.user) (map (offered settings at from onward) jobs)
+  user_each [] = All-nil (λ one. IsUserAt from one.job.user)
+  user_each (job ∷ jobs) =
+      let made = user_made settings at from job (next_hop onward job.kind) ∙ user_at from job.user named in
+      All-cons (λ one. IsUserAt from one.job.user) (offered settings at from onward job) (map (offered settings at from onward) jobs)
+      (take (254 - length from) job.user, made) (user_each jobs)
+
+pub users_named : (settings : Settings) (at : Moment) (input sender : List ℕ) (onward : List (List ℕ)) (it : Unpacking) (said : Result BundleText RequestFault)
+    → is_site_name sender ≡ true → IsBundleBetween sender settings.name input said
+    → (let asked : Result Request RequestFault = Ok (request.Unpacking it) in asked ≡ made_of (unpack settings at sender onward) said)
+    → All (λ one. IsUserAt sender one.job.user) it.bundle.jobs
+users_named settings at input sender onward it (Err fault) named is_said asked = absurd cc
+users_named settings at input sender onward it (Ok bundle) named is_said asked =
+    subst (All (λ one. IsUserAt sender one.job.user)) (sym (ap jobs_taken asked)) (user_each settings at sender onward named bundle.jobs)

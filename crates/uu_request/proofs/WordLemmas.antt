@@ -1,22 +1,23 @@
 -- Texts that are words.
 use Rattle.std.proofs.Common.{◌≡◌, ◌≢◌, ◌∙◌, ap, not, ◌==◌, ◌<◌, Bor, Option, ◌&&◌, ◌+◌, sym, refl, Bool, true, false, true≢false, ℕ, zero, suc, ◌≤◌, List, [], ◌∷◌, drop, length, Some, None, Result, Ok, Err, codes, subst, arith}
-use Rattle.std.specs.Prelude.{MatchOption, cond, find, nat_le}
+use Rattle.std.specs.Prelude.{◌++◌, ◌-◌, MatchOption, cond, find, nat_le, take}
 use Rattle.std.specs.List.{after_first, All, before_first, list_all, list_any, slice_split}
 use Rattle.std.proofs.lemmas.List.Splits.{length-slice_split, slice_split_first, slice_split_none}
 use Rattle.std.proofs.lemmas.List.Sums.{fails_before_first}
 use Rattle.std.proofs.Math.Dec.{eqb-suc-zero}
 use Rattle.std.proofs.lemmas.Bool.{leb-true, le-leb, and_parts, and_from}
-use Rattle.std.proofs.lemmas.List.{length-drop}
+use Rattle.std.proofs.lemmas.List.{length-append, length-drop, length-take}
+use Rattle.std.proofs.Math.Seq.{take-append-add}
 use Rattle.uu_names.specs.Fault.{AnswersUnlessMemory}
 use Rattle.uu_names.specs.Name.{has_form, is_site_byte, is_site_name, is_word, is_word_byte, most_name, most_word, word_of}
 use Rattle.uu_names.specs.Path.{first_hop, is_bang, rest_of}
 use Rattle.uu_names.specs.declared.fault.NameFault.{NameFault}
 use Rattle.uu_names.specs.declared.fault.NameFault.TheVariants as name
-use Rattle.uu_names.proofs.Basics.{list_all_weaker, word_from_site}
+use Rattle.uu_names.proofs.Basics.{list_all_both, list_all_weaker, word_from_site}
 use Rattle.uu_core.specs.declared.job.Kind.{Kind}
 use Rattle.uu_core.specs.declared.job.Kind.TheVariants as kind
 use Rattle.uu_line.specs.Lines.{same_text}
-use Rattle.uu_request.specs.Unpacking.{are_steps, have_rests, is_by_way_of, next_hop}
+use Rattle.uu_request.specs.Unpacking.{are_steps, have_rests, is_by_way_of, next_hop, user_of}
 use Rattle.std.specs.List.{position_or_len}
 
 all_dropped : (p : ℕ → Bool) (n : ℕ) (xs : List ℕ) → list_all p xs ≡ true → list_all p (drop n xs) ≡ true
@@ -24,15 +25,34 @@ all_dropped p zero xs e = e
 all_dropped p (suc n) [] e = refl
 all_dropped p (suc n) (x ∷ xs) e = all_dropped p n xs (and_parts (p x) (list_all p xs) e).1
 
--- a site name is a word
-pub site_word : (site : List ℕ) → is_site_name site ≡ true → is_word site ≡ true
-site_word site e =
+all_taken : (p : ℕ → Bool) (n : ℕ) (xs : List ℕ) → list_all p xs ≡ true → list_all p (take n xs) ≡ true
+all_taken p zero xs e = refl
+all_taken p (suc n) [] e = refl
+all_taken p (suc n) (x ∷ xs) e =
+    let parts = and_parts (p x) (list_all p xs) e in and_from (p x) (list_all p (take n xs)) parts.0 (all_taken p n xs parts.1)
+
+-- the user of a site's user begins with the site and a `!`
+pub user_at : (site user : List ℕ) → is_site_name site ≡ true → user_of site user ≡ site ++ 33 ∷ take (254 - length site) user
+user_at site user e =
     let parts = and_parts (has_form is_site_byte site) (nat_le (length site) most_name) e in
-    let form = and_parts (nat_le 1 (length site)) (list_all is_site_byte site) parts.0 in
     let short : length site ≤ 63 = leb-true (length site) 63 parts.1 in
-    and_from (has_form is_word_byte site) (nat_le (length site) most_word)
-    (and_from (nat_le 1 (length site)) (list_all is_word_byte site) form.0 (list_all_weaker is_site_byte is_word_byte site word_from_site form.1))
-    (le-leb (length site) 255 (omega (arith, short)))
+    let room : 255 ≡ length site + suc (254 - length site) = omega (arith, short) in
+    ap (λ n. take n (site ++ 33 ∷ user)) room ∙ take-append-add site (33 ∷ user) (suc (254 - length site))
+
+-- and is a word
+pub user_word : (site user : List ℕ) → is_site_name site ≡ true → is_word user ≡ true → is_word (user_of site user) ≡ true
+user_word site user e word =
+    let named = and_parts (has_form is_site_byte site) (nat_le (length site) most_name) e in
+    let site_form = and_parts (nat_le 1 (length site)) (list_all is_site_byte site) named.0 in
+    let parts = and_parts (has_form is_word_byte user) (nat_le (length user) most_word) word in
+    let form = and_parts (nat_le 1 (length user)) (list_all is_word_byte user) parts.0 in
+    let bytes : list_all is_word_byte (site ++ 33 ∷ user) ≡ true =
+    list_all_both is_word_byte site (33 ∷ user) (list_all_weaker is_site_byte is_word_byte site word_from_site site_form.1) form.1 in
+    let short : length (user_of site user) ≤ 255 = subst (λ n. n ≤ 255) (sym (length-take 255 (site ++ 33 ∷ user))) (omega arith) in
+    let some : 1 ≤ length (user_of site user) = subst (λ n. 1 ≤ n) (sym (ap length (user_at site user e) ∙ length-append site (33 ∷ take (254 - length site) user))) (omega arith) in
+    and_from (has_form is_word_byte (user_of site user)) (nat_le (length (user_of site user)) most_word)
+    (and_from (nat_le 1 (length (user_of site user))) (list_all is_word_byte (user_of site user)) (le-leb 1 (length (user_of site user)) some) (all_taken is_word_byte 255 (site ++ 33 ∷ user) bytes))
+    (le-leb (length (user_of site user)) 255 short)
 
 -- what comes after the first `!` of a word is a word, if anything does
 pub rest_word : (text : List ℕ) → is_word text ≡ true → nat_le 1 (length (rest_of text)) ≡ true → is_word (rest_of text) ≡ true
@@ -49,6 +69,9 @@ rest_word text e some =
 word_read : (text : List ℕ) → is_word text ≡ true → word_of text ≡ Ok text
 word_read text e =
     let parts = and_parts (has_form is_word_byte text) (nat_le (length text) most_word) e in rw (parts.0, parts.1) refl
+
+pub word_made : (text word : List ℕ) → is_word text ≡ true → (let read : Result (List ℕ) NameFault = Ok word in AnswersUnlessMemory read (word_of text)) → word ≡ text
+word_made text word e read = let is = read ∙ word_read text e in cc
 
 pub never_refused : (text : List ℕ) (fault : NameFault) → is_word text ≡ true → fault ≢ name.Memory
     → (let read : Result (List ℕ) NameFault = Err fault in AnswersUnlessMemory read (word_of text)) → ⊥

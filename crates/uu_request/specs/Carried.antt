@@ -1,10 +1,12 @@
 -- What a site unpacks of a neighbour's bundles as steps of custody (`uu_handover/specs/Custody.antt`).
-use Rattle.std.specs.Prelude.{◌≡◌, ℕ, Bool, true, ◌&&◌, ◌||◌, nat_eq, is_some, List, [], ◌∷◌, ◌++◌, map, All, codes}
+use Rattle.std.specs.Prelude.{◌≡◌, ℕ, Bool, true, false, ◌&&◌, ◌||◌, nat_eq, is_some, List, [], ◌∷◌, ◌++◌, map, All, codes}
 use Rattle.std.specs.List.{ends_with}
+use Rattle.std.specs.Cmp.Lexicographic.{pointwise}
 use Rattle.uu_names.specs.Envelope.{quote_of}
 use Rattle.uu_handover.specs.Bundles.{Bundle, Packed, RefusedJob, Told, unpacked}
 use Rattle.uu_handover.specs.Custody.{Crossing, Parcel}
 use Rattle.uu_core.specs.declared.command.Command.{Command}
+use Rattle.uu_core.specs.declared.job.Kind.{Kind}
 use Rattle.uu_core.specs.declared.job.Kind.TheVariants as kind
 use Rattle.uu_core.specs.declared.job.NewJob.{NewJob}
 use Rattle.uu_bundle.specs.Marks.{mark_of}
@@ -14,12 +16,21 @@ use Rattle.uu_bundle.specs.declared.bundle.Parcel.{Parcel as BundledJob}
 use Rattle.uu_bundle.specs.declared.bundle.Refused.{Refused}
 use Rattle.uu_bundle.specs.declared.bundle.Told.{Told as ToldText}
 use Rattle.uu_line.specs.Lines.{same_text}
-use Rattle.uu_request.specs.Receivers.{is_job_of}
 use Rattle.uu_request.specs.Unpacking.{next_hop, rests_of, user_of}
 
 -- the part of a bundle's job that is handed on
 abbrev pub carried : BundledJob → Parcel
 carried job = record { number = job.number; user = job.user; kind = job.kind; bytes = job.bytes }
+
+abbrev pub same_kind : Kind → Kind → Bool
+same_kind (kind.Send source target) (kind.Send from to) = same_text source from && same_text target to
+same_kind (kind.Request source target) (kind.Request from to) = same_text source from && same_text target to
+same_kind (kind.Execute command arguments) (kind.Execute other others) = same_text command other && pointwise same_text arguments others
+same_kind one other = false
+
+-- the job is this user's, for this system, and of this kind
+abbrev pub is_job_of : List ℕ → List ℕ → Kind → NewJob → Bool
+is_job_of user system kind job = same_text job.user user && same_text job.system system && same_kind job.kind kind
 
 -- The job is made from a parcel from this site to that one. Either it is for that site, with the
 -- kind and the bytes of the parcel. Or it is a message that is passed on to its system, whose bytes

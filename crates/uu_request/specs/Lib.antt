@@ -1,6 +1,5 @@
-pub mod Attempts
 pub mod Carried
 pub mod Marks
+pub mod Neighbours
 pub mod Requests
-pub mod Receivers
 pub mod Unpacking

@@ -29,6 +29,7 @@ use Rattle.uu_request.specs.Marks.{handed_text, key_of}
 use Rattle.uu_settings.specs.declared.settings.Settings.{Settings}
 use Rattle.uu_request.specs.declared.fault.RequestFault.{RequestFault}
 use Rattle.uu_request.specs.declared.fault.RequestFault.TheVariants.{Bundle, Input, Time, Memory}
+use Rattle.uu_request.specs.declared.fault.WrongBundle.{WrongBundle}
 use Rattle.uu_request.specs.declared.fault.WrongBundle.TheVariants.{NoBundle}
 use Rattle.uu_request.specs.declared.request.Question.{Question}
 use Rattle.uu_request.specs.declared.request.Question.TheVariants as question
@@ -36,6 +37,7 @@ use Rattle.uu_request.specs.declared.request.Request.{Request}
 use Rattle.uu_request.specs.declared.request.Request.TheVariants as request
 use Rattle.uu_core.specs.declared.subject.Subject.{Subject}
 use Rattle.uu_core.specs.declared.subject.Subject.TheVariants as subject
+use Rattle.uu_request.specs.Neighbours.{neighbour_of, wrong_neighbour}
 use Rattle.uu_request.specs.Unpacking.{AsksOf, answer, pack, packing, settle, unpack}
 
 -- ---- one command
@@ -137,13 +139,14 @@ task_request settings at input user (task.Systems system) = Ok (request.Question
 task_request settings at input user (task.Failed system why) = Ok (one (command.Failed system at why))
 task_request settings at input user (task.Done system jobs) = Ok (one (command.Done system at jobs))
 task_request settings at input user (task.Forget system below) = Ok (one (command.Forget system below))
-task_request settings at input user (task.Pack system grade spool after no_jobs) = Ok (pack (packing system grade spool after no_jobs))
+task_request settings at input user (task.Pack system grade spool after most no_jobs) = Ok (pack (packing system grade spool after most no_jobs))
 task_request settings at input user (task.Unpack sender onward) = Err (Bundle NoBundle)
 task_request settings at input user (task.Settle system spool) = Err (Bundle NoBundle)
-task_request settings at input user (task.Answer sender onward grade spool after no_jobs) = Err (Bundle NoBundle)
+task_request settings at input user (task.Answer sender onward grade spool after most no_jobs) = Err (Bundle NoBundle)
 task_request settings at input user task.Map = Ok (entries input)
 task_request settings at input user (task.Neighbours host) = Ok (request.Question (question.Entry host))
 task_request settings at input user task.Name = Ok (request.Question question.Name)
+task_request settings at input user (task.Routes host costs) = Ok (request.Question (question.Routes host costs))
 
 -- what a task of this user asks for, with any input
 abbrev pub TaskAsks : Settings → Moment → List ℕ → List ℕ → Task → Result Request RequestFault → Type 0
@@ -151,19 +154,25 @@ TaskAsks settings at input user (task.Unpack sender onward) asked =
     AsksOf sender settings.name input (unpack settings at sender onward) asked
 TaskAsks settings at input user (task.Settle system spool) asked =
     AsksOf system settings.name input (settle system spool) asked
-TaskAsks settings at input user (task.Answer sender onward grade spool after no_jobs) asked =
-    AsksOf sender settings.name input (answer settings at onward (packing sender grade spool after no_jobs)) asked
+TaskAsks settings at input user (task.Answer sender onward grade spool after most no_jobs) asked =
+    AsksOf sender settings.name input (answer settings at onward (packing sender grade spool after most no_jobs)) asked
 TaskAsks settings at input user task asked = asked ≡ task_request settings at input user task
 
 -- the line takes an input, and the input is too large
 abbrev pub has_too_much : List ℕ → CommandLine → Bool
 has_too_much input line = takes_input line.task && nat_lt most_text (length input)
 
+-- what a task asks for, if the site exchanges bundles with its neighbour
+abbrev pub TaskAsksOf : Settings → Moment → List ℕ → List ℕ → Task → Option WrongBundle → Result Request RequestFault → Type 0
+TaskAsksOf settings at input user task None asked = TaskAsks settings at input user task asked
+TaskAsksOf settings at input user task (Some why) asked = asked ≡ Err (Bundle why)
+
 -- what a line asks for
 abbrev pub LineAsks : Settings → Moment → List ℕ → CommandLine → Result Request RequestFault → Type 0
 LineAsks settings at input line asked =
     (IsTrue (has_too_much input line) × (asked ≡ Err Input))
-    ⊎ ((has_too_much input line ≡ false) × TaskAsks settings at input line.user line.task asked)
+    ⊎ ((has_too_much input line ≡ false)
+    × TaskAsksOf settings at input line.user line.task (wrong_neighbour settings (neighbour_of line.task)) asked)
 
 -- the answer is the expected one, or out of memory
 abbrev pub AnswersUnlessMemory : Result Request RequestFault → Result Request RequestFault → Type 0

@@ -1,12 +1,12 @@
 -- What is asked of a spool with a bundle of a neighbour. The bundle is taken whole or not at all,
 -- each of its jobs once. Or it says which of this site's jobs the neighbour has. Or it is answered
 -- by another. (The subcommands are this project's choice; `rmail` and bang paths: RFC 976.)
-use Rattle.std.specs.Prelude.{◌≡◌, ℕ, Bool, true, false, ◌&&◌, nat_le, length, List, [], ◌∷◌, ◌++◌, map, find, Option, Some, None, Result, Ok, Err, codes, unwrap_or, if◌then◌else◌}
+use Rattle.std.specs.Prelude.{◌≡◌, ℕ, Bool, true, false, ◌&&◌, nat_le, length, List, [], ◌∷◌, ◌++◌, map, take, find, Option, Some, None, Result, Ok, Err, codes, unwrap_or, if◌then◌else◌}
 use Rattle.std.specs.List.{list_all, list_any, slice_split}
 use Rattle.std.specs.Option.{option_to_list}
 use Rattle.std.specs.Str.{byte}
 use Rattle.uu_names.specs.Envelope.{envelope_of}
-use Rattle.uu_names.specs.Name.{is_site_name, is_word}
+use Rattle.uu_names.specs.Name.{is_site_name, most_word}
 use Rattle.uu_names.specs.Path.{first_hop, is_bang, rest_of}
 use Rattle.uu_times.specs.declared.moment.Moment.{Moment}
 use Rattle.uu_core.specs.State.{most_bytes}
@@ -47,9 +47,13 @@ IsBundleBetween from to text (Err other) = ⊥
 
 -- ---- a job of a bundle
 
--- the user that it belongs to here: SENDER!USER, or SENDER if that is too long
+-- the user that it belongs to here: SENDER!USER, or as much of its beginning as a word has room for
 abbrev pub user_of : List ℕ → List ℕ → List ℕ
-user_of sender user = let both = sender ++ byte "!" ∷ user in if is_word both then both else sender
+user_of sender user = take most_word (sender ++ byte "!" ∷ user)
+
+-- the user is one of the site: SITE!.., and so has a `!`
+abbrev pub IsUserAt : List ℕ → List ℕ → Type 0
+IsUserAt site user = (rest : List ℕ) × (user ≡ site ++ byte "!" ∷ rest)
 
 -- the parts of a path's text between its `!`: sites, and then a local part
 abbrev pub are_steps : List (List ℕ) → Bool
@@ -143,9 +147,9 @@ settle system spool bundle =
 -- ---- the bundles that are asked for
 
 -- the bundle for a system
-abbrev pub packing : List ℕ → ℕ → Option (List ℕ) → Option ℕ → Bool → Packing
-packing system grade spool after no_jobs =
-    record { system = system; grade = grade; spool = spool_of spool; after = after; no_jobs = no_jobs }
+abbrev pub packing : List ℕ → ℕ → Option (List ℕ) → Option ℕ → Option ℕ → Bool → Packing
+packing system grade spool after most no_jobs =
+    record { system = system; grade = grade; spool = spool_of spool; after = after; most = most; no_jobs = no_jobs }
 
 abbrev pub pack : Packing → Request
 pack packing = request.Question (question.Pack packing)

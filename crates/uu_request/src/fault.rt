@@ -13,7 +13,7 @@ pub enum RequestFault {
     /// The input isn't a sys file.
     #[error("sys file: {0}")]
     Time(TimeFault),
-    /// The input isn't a bundle from the one site to the other.
+    /// The site exchanges no bundles with the other, or the input isn't one from the other to it.
     #[error("bundle: {0:?}")]
     Bundle(WrongBundle),
     /// Out of memory.
@@ -21,7 +21,7 @@ pub enum RequestFault {
     Memory,
 }
 
-/// Why an input isn't a bundle from this neighbour to this site.
+/// Why no bundle is exchanged with a neighbour, or why an input isn't one from it to this site.
 #[derive(Clone, Copy, PartialEq, Eq, Debug, Drop)]
 pub enum WrongBundle {
     /// It doesn't begin with the first line of a bundle.
@@ -30,6 +30,10 @@ pub enum WrongBundle {
     OtherSender,
     /// It is for another site.
     OtherSite,
+    /// The neighbour that the line names is this site.
+    OwnSite,
+    /// The site's bundles are sealed.
+    Sealed,
 }
 
 impl From<AllocError> for RequestFault {

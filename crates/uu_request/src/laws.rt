@@ -1,32 +1,21 @@
 //! Laws of the definitions that the contracts cite.
-ghost use Rattle.std.specs.Prelude.{◌≡◌, ◌↔◌, ◌++◌, ◌∷◌, ℕ, List, All, Bool, IsTrue, Ok, Option, false, true};
+ghost use Rattle.std.specs.Prelude.{◌≡◌, ◌↔◌, ◌++◌, ◌∷◌, ℕ, List, All, Bool, IsTrue, Ok, Option};
 ghost use Rattle.uu_names.specs.Name.{is_site_name, is_word};
 ghost use Rattle.uu_names.specs.Path.{IsPathText, first_hop};
 ghost use Rattle.uu_times.specs.declared.moment.Moment.{Moment};
-ghost use Rattle.uu_core.specs.declared.command.Command.{Command};
-ghost use Rattle.uu_core.specs.declared.command.Command.TheVariants.{Forget, QueueOnce};
-ghost use Rattle.uu_core.specs.declared.command.Reply.TheVariants.{Number};
-ghost use Rattle.uu_core.specs.declared.custody.Key.{Key};
-ghost use Rattle.uu_core.specs.declared.job.NewJob.{NewJob};
-ghost use Rattle.uu_core.specs.State.{State};
+ghost use Rattle.uu_core.specs.declared.command.Command.TheVariants.{Forget};
 ghost use Rattle.uu_core.specs.After.{after};
-ghost use Rattle.uu_core.specs.Run.{state_after};
-ghost use Rattle.uu_handover.specs.Custody.{Parcel, key_of};
-ghost use Rattle.uu_core.specs.Laws.{accepted_of, lets_forget};
 ghost use Rattle.uu_core.specs.TakeIns.{commands_in};
 ghost use Rattle.uu_handover.specs.Bundles.{Bundle as SaidBundle, IsFront, IsFrontOf};
 ghost use Rattle.uu_bundle.specs.Bundles.{IsBundle, bundle_text};
 ghost use Rattle.uu_bundle.specs.Reading.{IsRead};
 ghost use Rattle.uu_bundle.specs.declared.bundle.Bundle.{Bundle};
-ghost use Rattle.uu_line.specs.declared.task.Task.{Task};
 ghost use Rattle.uu_line.specs.declared.task.Task.TheVariants.{Answer, Settle, Unpack};
 ghost use Rattle.uu_settings.specs.declared.settings.Settings.{Settings};
-ghost use Rattle.uu_request.specs.Attempts.{regraded};
 ghost use Rattle.uu_request.specs.Carried.{AreUnpacked, bundle_crossing, said_of};
 ghost use Rattle.uu_request.specs.Marks.{Given, HasWords, marked_text_of};
-ghost use Rattle.uu_request.specs.Receivers.{IsOnce, Script, crossing_of};
-ghost use Rattle.uu_request.specs.Requests.{TaskAsks, one, task_request};
-ghost use Rattle.uu_request.specs.Unpacking.{is_by_way_of, packing, spool_of};
+ghost use Rattle.uu_request.specs.Requests.{TaskAsks, one};
+ghost use Rattle.uu_request.specs.Unpacking.{IsUserAt, is_by_way_of, packing, spool_of};
 ghost use Rattle.uu_request.specs.declared.request.Answering.{Answering};
 ghost use Rattle.uu_request.specs.declared.request.Settling.{Settling};
 ghost use Rattle.uu_request.specs.declared.request.Unpacking.{Unpacking};
@@ -34,39 +23,11 @@ ghost use Rattle.uu_request.specs.declared.request.Question.TheVariants as askin
 ghost use Rattle.uu_request.specs.declared.request.Request.TheVariants as request;
 
 use uu_bundle::laws::{a_text_has_one_bundle, cut_bundles_are_fronts, written_bundles_are_read};
-use uu_core::laws::keys_are_answered_again;
 
 /// The text of what is handed in, from which a mark is made, determines all of it: no two have the
 /// same text. (That no two texts have the same mark rests on the digest, and no law says it.)
 pub fn texts_tell_apart()
     ensures { (one other : Given) → HasWords one → HasWords other → marked_text_of one ≡ marked_text_of other → one ≡ other }
-{}
-
-/// A job of a neighbour that was queued under a number gets this number again, and nothing changes,
-/// if it is asked for again by the same user with the same words and input, whatever the grade,
-/// the settings and the moment are by then: after any run of which no accepted command lets the
-/// neighbour's job be forgotten.
-pub fn attempts_are_answered_again()
-    ensures { (before now : Settings) (first again : Moment) (input user : List ℕ) (task : Task) (grade : ℕ) (key key_again : Key) (job job_again : NewJob) (state : State) (number : ℕ) (commands : List Command)
-        → task_request before first input user task ≡ Ok (one (QueueOnce key job))
-        → task_request now again input user (regraded grade task) ≡ Ok (one (QueueOnce key_again job_again))
-        → (after state (QueueOnce key job)).1 ≡ Number number
-        → All (λ command. lets_forget command key ≡ false) (accepted_of (after state (QueueOnce key job)).0 commands)
-        → let later = state_after (after state (QueueOnce key job)).0 commands in after later (QueueOnce key_again job_again) ≡ (later, Number number) }
-{
-    keys_are_answered_again();
-}
-
-/// If a site hands each parcel of a neighbour in by one line, whose grade may be another each time,
-/// and each line says whose job it is, then such a line, in whatever settings and at whatever moment,
-/// is the step of custody in which the receiver takes the parcel (`ReceiverTakes`): its request is
-/// the command under the parcel's key, with a job that the site makes of the parcel. So the law of
-/// custody (`handed_on_jobs_come_once` of `uu_handover`) is one of the program's lines.
-pub fn lines_are_steps_of_custody()
-    ensures { (from to : List ℕ) (script : Script) (settings : Settings) (at : Moment) (grade : ℕ) (parcel : Parcel) → IsOnce from script
-        → let crossing = crossing_of from to script in (job : NewJob)
-        × (task_request settings at (script.input parcel) (script.user parcel) (regraded grade (script.task parcel)) ≡ Ok (one (QueueOnce (key_of crossing parcel) job)))
-        × (crossing.makes parcel job ≡ true) }
 {}
 
 /// A site unpacks a bundle, with any settings, at any moment, and with mail passed on to any
@@ -78,6 +39,15 @@ pub fn bundles_are_steps_of_custody()
         → TaskAsks settings at input user (Unpack sender onward) (Ok (request.Unpacking it))
         → (bundle : Bundle) × IsRead input bundle × (bundle.from ≡ sender) × (bundle.to ≡ settings.name)
         × AreUnpacked (bundle_crossing bundle.from bundle.to bundle.spool) (said_of bundle) (commands_in it.bundle) }
+{}
+
+/// Each job of a neighbour's bundle belongs to a user NEIGHBOUR!.., however long the USER is that the
+/// bundle names. So a user without a `!` is one of this site's.
+pub fn users_of_neighbours_name_them()
+    ensures { (settings : Settings) (at : Moment) (input user sender : List ℕ) (onward : List (List ℕ)) (it : Unpacking)
+        → IsTrue (is_site_name sender)
+        → TaskAsks settings at input user (Unpack sender onward) (Ok (request.Unpacking it))
+        → All (λ offered. IsUserAt sender offered.job.user) it.bundle.jobs }
 {}
 
 /// Mail is passed on to a system exactly if each address is a bang path whose first site is that
@@ -137,10 +107,10 @@ pub fn what_is_brought_settles()
 /// those that `unpack` asks, in the crossing of these two and the sender's spool.
 pub fn what_is_brought_is_answered()
     ensures { (whole : Bundle) (front cut : List ℕ) (settings : Settings) (at : Moment) (user sender : List ℕ) (onward : List (List ℕ))
-        (grade : ℕ) (spool : Option (List ℕ)) (after : Option ℕ) (no_jobs : Bool) (it : Answering)
+        (grade : ℕ) (spool : Option (List ℕ)) (after most : Option ℕ) (no_jobs : Bool) (it : Answering)
         → IsBundle whole → front ++ cut ≡ bundle_text whole
-        → TaskAsks settings at front user (Answer sender onward grade spool after no_jobs) (Ok (request.Question (asking.Answer it)))
-        → (whole.from ≡ sender) × (whole.to ≡ settings.name) × (it.packing ≡ packing sender grade spool after no_jobs) × (it.asked ≡ whole.grade)
+        → TaskAsks settings at front user (Answer sender onward grade spool after most no_jobs) (Ok (request.Question (asking.Answer it)))
+        → (whole.from ≡ sender) × (whole.to ≡ settings.name) × (it.packing ≡ packing sender grade spool after most no_jobs) × (it.asked ≡ whole.grade)
         × ((bundle : SaidBundle) × IsFrontOf (said_of whole) bundle
         × AreUnpacked (bundle_crossing whole.from whole.to whole.spool) bundle (Forget whole.from whole.below ∷ it.commands)) }
 {

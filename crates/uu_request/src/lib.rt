@@ -6,11 +6,13 @@ pub mod laws;
 mod mail;
 mod maps;
 mod marks;
+mod neighbours;
 mod request;
 mod systems;
 mod unpacking;
 
 pub use fault::{RequestFault, WrongBundle};
+pub use neighbours::neighbour_of;
 pub use request::{
     Answering, CommandList, Packing, Question, Request, Settling, Unpacking, request_of,
 };

@@ -12,6 +12,7 @@ use crate::fault::RequestFault;
 use crate::mail::mail;
 use crate::maps::entries;
 use crate::marks::{execution_key, file_key, message_key};
+use crate::neighbours::wrong_neighbour;
 use crate::systems::load;
 use crate::unpacking::{answer, pack, packing, settle, unpack};
 use std::alloc::Global;
@@ -76,6 +77,8 @@ pub enum Question {
     Entry(SiteName),
     /// The site's own name, which the settings give.
     Name,
+    /// The routes by the map: to all hosts, or to this one; with their costs or without.
+    Routes(Option<SiteName>, bool),
     /// The bundle for a system.
     Pack(Packing),
     /// The bundle for a system that answers one of its own.
@@ -94,6 +97,8 @@ pub struct Packing {
     pub spool: Word,
     /// The job after which its jobs begin, in the order of grade and number, if one is given.
     pub after: Option<u32>,
+    /// How many bytes it has at most, but for its first job, if that is given.
+    pub most: Option<u32>,
     /// Whether its jobs are left out.
     pub no_jobs: bool,
 }
@@ -140,7 +145,8 @@ pub struct Unpacking {
 /// the job's if the line hands one in.
 ///
 /// # Errors
-/// `Input` exactly if the line takes an input and that has more than `MAX_TEXT` bytes, then `Time`
+/// `Input` exactly if the line takes an input and that has more than `MAX_TEXT` bytes, then `Bundle`
+/// with `Sealed` or `OwnSite` if the site exchanges no bundles with the line's neighbour, then `Time`
 /// with the fault of the first faulty line of a sys file, or `Bundle` if the input isn't a bundle
 /// from the neighbour to this site, else `Memory`.
 pub fn request_of(
@@ -156,6 +162,10 @@ pub fn request_of(
     if line.task.has_input() && input.len() > MAX_TEXT {
         drop(line);
         return Err(RequestFault::Input);
+    }
+    if let Some(why) = wrong_neighbour(&line.task, settings) {
+        drop(line);
+        return Err(RequestFault::Bundle(why));
     }
     let CommandLine {
         config: _,
@@ -252,8 +262,9 @@ fn task_request(
             grade,
             spool,
             after,
+            most,
             no_jobs,
-        } => pack(alloc, system, grade, spool, after, no_jobs),
+        } => pack(alloc, system, grade, spool, after, most, no_jobs),
         Task::Unpack { sender, onward } => {
             unpack(alloc, sender, onward.as_slice(), settings, &at, &input)
         }
@@ -264,14 +275,16 @@ fn task_request(
             grade,
             spool,
             after,
+            most,
             no_jobs,
         } => {
-            let packing = packing(alloc, sender, grade, spool, after, no_jobs)?;
+            let packing = packing(alloc, sender, grade, spool, after, most, no_jobs)?;
             answer(alloc, packing, onward.as_slice(), settings, &at, &input)
         }
         Task::Map => entries(alloc, &input),
         Task::Neighbours { host } => Ok(Request::Question(Question::Entry(host))),
         Task::Name => Ok(Request::Question(Question::Name)),
+        Task::Routes { host, costs } => Ok(Request::Question(Question::Routes(host, costs))),
     }
 }
 

@@ -1,10 +1,11 @@
 //! What is asked of a spool with bundles of neighbours.
 
-ghost use Rattle.std.specs.Prelude.{◌≡◌, ◌<◌, [], ◌∷◌, MatchOption, Ok, Some, IfOk, IfErr, IsTrue, nat_le, length, find, map, option_copied, unwrap_or, codes};
+ghost use Rattle.std.specs.Prelude.{◌≡◌, ◌++◌, ◌<◌, [], ◌∷◌, MatchOption, Ok, Some, IfOk, IfErr, IsTrue, nat_le, length, find, map, string_bytes, take, option_copied, unwrap_or, codes};
 ghost use Rattle.std.specs.List.{list_all, slice_split};
 ghost use Rattle.std.specs.Option.{option_to_list};
+ghost use Rattle.std.specs.Str.{byte};
 ghost use Rattle.uu_names.specs.Envelope.{envelope_of};
-ghost use Rattle.uu_names.specs.Name.{is_site_byte, is_site_name};
+ghost use Rattle.uu_names.specs.Name.{is_site_byte, is_site_name, most_word};
 ghost use Rattle.uu_names.specs.Path.{is_bang, rest_of};
 ghost use Rattle.uu_times.specs.Moment.{IsDateTimeAt, local_second};
 ghost use Rattle.uu_core.specs.TakeIns.{offering};
@@ -24,6 +25,9 @@ use uu_names::{Grade, Listed, NameFault, SiteName, Word, is_site_byte};
 use uu_settings::Settings;
 use uu_times::Moment;
 
+// The most bytes of a word.
+const MAX_WORD: usize = 255;
+
 /// Which bundle for a system is asked for.
 pub(crate) fn packing(
     alloc: Global,
@@ -31,9 +35,10 @@ pub(crate) fn packing(
     grade: Grade,
     spool: Option<Word>,
     after: Option<u32>,
+    most: Option<u32>,
     no_jobs: bool,
 ) -> Result<Packing, RequestFault>
-    ensures packing { IfOk result (λ packing. packing ≡ spec.packing system grade spool after no_jobs) }
+    ensures packing { IfOk result (λ packing. packing ≡ spec.packing system grade spool after most no_jobs) }
     ensures memory { IfErr result (λ fault. fault ≡ RequestFault.Memory) }
 {
     let spool = spool_of(alloc, spool)?;
@@ -42,6 +47,7 @@ pub(crate) fn packing(
         grade,
         spool,
         after,
+        most,
         no_jobs,
     })
 }
@@ -53,11 +59,12 @@ pub(crate) fn pack(
     grade: Grade,
     spool: Option<Word>,
     after: Option<u32>,
+    most: Option<u32>,
     no_jobs: bool,
 ) -> Result<Request, RequestFault>
-    ensures { AnswersUnlessMemory result (Ok (spec.pack (spec.packing system grade spool after no_jobs))) }
+    ensures { AnswersUnlessMemory result (Ok (spec.pack (spec.packing system grade spool after most no_jobs))) }
 {
-    let packing = packing(alloc, system, grade, spool, after, no_jobs)?;
+    let packing = packing(alloc, system, grade, spool, after, most, no_jobs)?;
     Ok(Request::Question(Question::Pack(packing)))
 }
 
@@ -493,25 +500,29 @@ fn user_of(alloc: Global, sender: &SiteName, user: &Word) -> Result<Word, Reques
     ensures user { IfOk result (λ made. made ≡ spec.user_of sender.now user.now) }
     ensures memory { IfErr result (λ fault. fault ≡ RequestFault.Memory) }
 {
-    let both = format!(in alloc; "{}!{}", sender.as_str(), user.as_str())?;
-    match Word::parse(alloc, both.as_str()) {
-        Ok(word) => Ok(word),
-        Err(NameFault::Memory) => Err(RequestFault::Memory),
-        Err(_) => sender_alone(alloc, sender),
-    }
-}
-
-fn sender_alone(alloc: Global, sender: &SiteName) -> Result<Word, RequestFault>
-    ensures word { IfOk result (λ word. word ≡ sender.now) }
-    ensures memory { IfErr result (λ fault. fault ≡ RequestFault.Memory) }
-{
-    match Word::parse(alloc, sender.as_str()) {
+    let both = with_bang(alloc, sender.as_str(), user.as_str())?;
+    match Word::from_bytes(alloc, front_of(both.as_bytes())) {
         Ok(word) => Ok(word),
         Err(fault) => match fault {
             NameFault::Memory => Err(RequestFault::Memory),
             _ => unreachable!(),
         },
     }
+}
+
+// A site and a user, with a `!` between them.
+fn with_bang(alloc: Global, site: &str, user: &str) -> Result<String, AllocError>
+    ensures { IfOk result (λ both. string_bytes both ≡ site.now ++ byte "!" ∷ user.now) }
+{
+    format!(in alloc; "{site}!{user}")
+}
+
+// As much of a text's beginning as a word has room for.
+fn front_of(text: &[u8]) -> &[u8]
+    ensures { result.now ≡ take most_word text.now }
+{
+    let (front, _) = text.split_at(MAX_WORD.min(text.len()));
+    front
 }
 
 // The system to which a job goes on, if it is a message.

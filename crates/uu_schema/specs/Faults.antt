@@ -1,11 +1,11 @@
 -- The faults of the store. (Their numbers are this project's choice.)
 use Rattle.std.specs.Prelude.{◌≡◌, ◌≢◌, ℕ, ⊤}
 use Rattle.sqlite.specs.declared.error.ErrorCode.{ErrorCode}
-use Rattle.sqlite.specs.declared.error.ErrorCode.TheVariants.{SystemIoFailure, DatabaseCorrupt, DiskFull, OutOfMemory, TooBig}
+use Rattle.sqlite.specs.declared.error.ErrorCode.TheVariants.{SystemIoFailure, DatabaseCorrupt, DiskFull, OutOfMemory, TooBig, DatabaseBusy}
 use Rattle.sqlite.specs.declared.error.Error.{Error}
 use Rattle.sqlite.specs.declared.error.Error.TheVariants.{SqliteFailure}
 use Rattle.uu_schema.specs.declared.fault.StoreKind.{StoreKind}
-use Rattle.uu_schema.specs.declared.fault.StoreKind.TheVariants.{Disk, Size, Database}
+use Rattle.uu_schema.specs.declared.fault.StoreKind.TheVariants.{Disk, Size, Busy, Database}
 use Rattle.uu_schema.specs.declared.fault.StoreFault.{StoreFault}
 use Rattle.uu_schema.specs.declared.fault.StoreFault.TheVariants.{Memory, Store, Failed, Foreign, Newer}
 use Rattle.uu_schema.specs.declared.fault.Halt.{Halt}
@@ -17,6 +17,7 @@ kind_of_code SystemIoFailure = Disk
 kind_of_code DatabaseCorrupt = Disk
 kind_of_code DiskFull = Disk
 kind_of_code TooBig = Size
+kind_of_code DatabaseBusy = Busy
 kind_of_code _ = Database
 
 abbrev pub kind_of_error : Error → StoreKind

@@ -16,6 +16,8 @@ pub enum StoreKind {
     Disk,
     /// A row or the file is too big.
     Size,
+    /// Another process has the database open.
+    Busy,
     /// Any other error of the database.
     Database,
 }
@@ -116,6 +118,7 @@ pub fn kind_of(error: &SqlError) -> StoreKind
         | SqlError::SqliteFailure(ErrorCode::DatabaseCorrupt)
         | SqlError::SqliteFailure(ErrorCode::DiskFull) => StoreKind::Disk,
         SqlError::SqliteFailure(ErrorCode::TooBig) => StoreKind::Size,
+        SqlError::SqliteFailure(ErrorCode::DatabaseBusy) => StoreKind::Busy,
         _ => StoreKind::Database,
     }
 }

@@ -11,7 +11,7 @@ use Rattle.uu_settings.specs.declared.fault.SettingsFault.TheVariants as fault
 -- what follows from a fault that isn't out of memory
 pub err_weaker : {V W X Y : Type 0} (seen : V → W) (shown : X → Y) (f : SettingsFault) (a : Result W SettingsFault) (b : Result Y SettingsFault)
     → (Err f ≡ a → Err f ≡ b) → AnswersAs seen (Err f) a → AnswersAs shown (Err f) b
-err_weaker seen shown fault.NotToml a b weaker is = weaker is
+err_weaker seen shown (fault.NotToml why) a b weaker is = weaker is
 err_weaker seen shown (fault.Missing key) a b weaker is = weaker is
 err_weaker seen shown (fault.BadValue key) a b weaker is = weaker is
 err_weaker seen shown fault.Memory a b weaker is = tt

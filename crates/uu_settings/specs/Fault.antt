@@ -9,7 +9,7 @@ use Rattle.uu_settings.specs.declared.fault.SettingsFault.TheVariants.{NotToml, 
 
 -- the number of a fault
 abbrev pub fault_code : SettingsFault → ℕ
-fault_code NotToml = 1
+fault_code (NotToml why) = 1
 fault_code (Missing key) = 2
 fault_code (BadValue key) = 3
 fault_code Memory = 4
@@ -21,6 +21,7 @@ key_name key.Offset = codes "offset"
 key_name key.Zone = codes "zone"
 key_name key.Spool = codes "spool"
 key_name key.Admins = codes "admins"
+key_name key.Seals = codes "seals"
 
 -- the fault of a key whose value isn't a name; out of memory stays out of memory
 abbrev pub value_fault : Key → NameFault → SettingsFault

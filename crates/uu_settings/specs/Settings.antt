@@ -1,8 +1,9 @@
 -- What a TOML document (TOML 1.1) sets for a site. The keys, their order and their limits are this
 -- project's choice.
-use Rattle.std.specs.Prelude.{◌≡◌, ℕ, pos, not, ◌==◌, length, Bool, List, [], ◌∷◌, Option, Some, None, Result, Ok, Err, ⊤, if◌then◌else◌, ok_or, option_map, option_and_then, string_bytes}
+use Rattle.std.specs.Prelude.{◌≡◌, ℕ, suc, pos, not, ◌==◌, length, filter, take, Bool, List, [], ◌∷◌, Option, Some, None, Result, Ok, Err, ⊤, if◌then◌else◌, ok_or, option_map, option_and_then, string_bytes}
 use Rattle.std.specs.Result.{result_ok}
 use Rattle.toml.specs.Data.{Data, Items, Members, no_items, item, as_str, as_integer, as_array, get_member}
+use Rattle.toml.specs.Errors.{IsWithin, span_start}
 use Rattle.toml.specs.Parse.{parse_document}
 use Rattle.uu_names.specs.Name.{site_name_of, word_of}
 use Rattle.uu_times.specs.Zone.{TzText, always, zone_of}
@@ -12,6 +13,7 @@ use Rattle.uu_settings.specs.Offsets.{is_offset}
 use Rattle.uu_settings.specs.declared.fault.Key.{Key}
 use Rattle.uu_settings.specs.declared.fault.Key.TheVariants as key
 use Rattle.uu_settings.specs.declared.fault.SettingsFault.{SettingsFault}
+use Rattle.uu_settings.specs.declared.fault.TomlFault.{TomlFault}
 use Rattle.uu_settings.specs.declared.fault.SettingsFault.TheVariants.{NotToml, Missing, BadValue, Memory}
 use Rattle.uu_settings.specs.declared.settings.Settings.{Settings}
 
@@ -24,6 +26,8 @@ pub record SettingsView : Type 0 where
   pub spool : List ℕ
   -- the users who may change jobs of others
   pub admins : List (List ℕ)
+  -- the path of the folder with the keys of neighbours, if bundles are sealed
+  pub seals : Option (List ℕ)
 
 -- ---- values
 
@@ -44,8 +48,8 @@ abbrev pub zone_in : Data → Option TzText
 zone_in value = option_and_then zone_of (as_str value)
 
 -- a text of one byte or more
-abbrev pub spool_in : Data → Option (List ℕ)
-spool_in value = option_and_then (where_it (λ path. not (length path == 0))) (as_str value)
+abbrev pub path_in : Data → Option (List ℕ)
+path_in value = option_and_then (where_it (λ path. not (length path == 0))) (as_str value)
 
 -- a text that is a word
 abbrev pub word_in : Data → Option (List ℕ)
@@ -97,6 +101,10 @@ clock_as (Some minutes) (Some value) = Err (BadValue key.Zone)
 abbrev pub clock : Option TzText → Members → Result TzText SettingsFault
 clock minutes document = clock_as minutes (get_member (key_name key.Zone) document)
 
+-- the path of a folder, if it is given
+abbrev pub seals : Members → Result (Option (List ℕ)) SettingsFault
+seals document = optional key.Seals (λ value. option_map Some (path_in value)) None document
+
 -- ---- settings
 
 -- what a document sets; other keys are ignored
@@ -105,13 +113,10 @@ settings_in document =
     and_then (required key.Name name_in document) (λ name.
     and_then (offset document) (λ minutes.
     and_then (clock minutes document) (λ zone.
-    and_then (required key.Spool spool_in document) (λ spool.
+    and_then (required key.Spool path_in document) (λ spool.
     and_then (optional key.Admins admins_in [] document) (λ admins.
-    Ok (record { name = name; zone = zone; spool = spool; admins = admins }))))))
-
--- what a text sets
-abbrev pub settings_of : List ℕ → Result SettingsView SettingsFault
-settings_of text = and_then (ok_or (parse_document text) NotToml) settings_in
+    and_then (seals document) (λ seals.
+    Ok (record { name = name; zone = zone; spool = spool; admins = admins; seals = seals })))))))
 
 -- what the settings say
 abbrev pub settings_view : Settings → SettingsView
@@ -120,6 +125,7 @@ settings_view settings = record {
   zone = clocks.zone_view settings.zone;
   spool = string_bytes settings.spool;
   admins = settings.admins.items;
+  seals = option_map string_bytes settings.seals;
 }
 
 -- the answer, seen in this way, is the expected one, or it is out of memory
@@ -128,6 +134,25 @@ AnswersAs seen (Ok value) expected = Ok (seen value) ≡ expected
 AnswersAs seen (Err Memory) expected = ⊤
 AnswersAs seen (Err fault) expected = Err fault ≡ expected
 
--- the answer to a text is what it sets, or why it sets nothing
+-- the line of a text that has the byte at this place, counted from 1: the lines end in line feeds
+abbrev pub line_at : List ℕ → ℕ → ℕ
+line_at text at = suc (length (filter (λ byte. byte == 10) (take at text)))
+
+-- an error of the TOML reader lies in the text, and this is the line in which it begins
+abbrev pub IsTomlFault : List ℕ → TomlFault → Type 0
+IsTomlFault text why = IsWithin text why.error × (why.line ≡ line_at text (span_start why.error))
+
+-- the answer to a text that isn't a document: the error of the TOML reader, or out of memory
+abbrev pub IsNotToml : List ℕ → Result Settings SettingsFault → Type 0
+IsNotToml text (Err (NotToml why)) = IsTomlFault text why
+IsNotToml text (Err Memory) = ⊤
+IsNotToml text _ = ⊥
+
+-- the answer to a text with this document, if it has one
+abbrev pub IsAnswerFor : List ℕ → Option Members → Result Settings SettingsFault → Type 0
+IsAnswerFor text None answer = IsNotToml text answer
+IsAnswerFor text (Some document) answer = AnswersAs settings_view answer (settings_in document)
+
+-- the answer to a text is what its document sets, or why it sets nothing
 abbrev pub IsAnswerTo : List ℕ → Result Settings SettingsFault → Type 0
-IsAnswerTo text answer = AnswersAs settings_view answer (settings_of text)
+IsAnswerTo text answer = IsAnswerFor text (parse_document text) answer

@@ -4,6 +4,7 @@ ghost use Rattle.uu_settings.specs.declared.fault.SettingsFault.TheVariants.{Mem
 ghost use Rattle.uu_settings.specs.Fault.{fault_code, key_name};
 
 use std::alloc::{AllocError, AllocFailed};
+use std::fmt;
 use thiserror::Error;
 
 /// A key of the settings.
@@ -19,6 +20,8 @@ pub enum Key {
     Spool,
     /// `admins`: the users who may change jobs of others, an array of words.
     Admins,
+    /// `seals`: the folder with the keys of neighbours, a text of one byte or more.
+    Seals,
 }
 
 impl Key {
@@ -32,7 +35,25 @@ impl Key {
             Key::Zone => "zone",
             Key::Spool => "spool",
             Key::Admins => "admins",
+            Key::Seals => "seals",
         }
+    }
+}
+
+/// Why a text isn't a TOML document, and in which line.
+#[derive(Clone, Copy, Debug, PartialEq, Eq)]
+pub struct TomlFault {
+    /// The line in which the error begins, counted from 1.
+    pub line: usize,
+    /// The error of the TOML reader.
+    pub error: toml::de::Error,
+}
+
+impl fmt::Display for TomlFault {
+    fn fmt<W: fmt::Write>(&self, f: &mut fmt::Formatter<W>) -> fmt::Result {
+        let line = self.line;
+        let message = self.error.message();
+        write!(f, "line {line}: {message}")
     }
 }
 
@@ -40,8 +61,8 @@ impl Key {
 #[derive(Clone, Copy, Debug, PartialEq, Eq, Error)]
 pub enum SettingsFault {
     /// The text isn't a TOML document.
-    #[error("not toml")]
-    NotToml,
+    #[error("not toml: {0}")]
+    NotToml(TomlFault),
     /// A required key is missing.
     #[error("{0:?} missing")]
     Missing(Key),
@@ -60,7 +81,7 @@ impl SettingsFault {
         ensures { result ≡ fault_code self.now }
     {
         match self {
-            SettingsFault::NotToml => 1,
+            SettingsFault::NotToml(_) => 1,
             SettingsFault::Missing(_) => 2,
             SettingsFault::BadValue(_) => 3,
             SettingsFault::Memory => 4,

@@ -6,5 +6,5 @@ mod read;
 mod settings;
 mod values;
 
-pub use fault::{Key, SettingsFault};
+pub use fault::{Key, SettingsFault, TomlFault};
 pub use settings::Settings;

@@ -14,4 +14,7 @@ pub struct Settings {
     pub spool: String,
     /// The users who may change jobs of others.
     pub admins: Vec<Word>,
+    /// The path of the folder with the keys of neighbours, one byte or more, if bundles are sealed.
+    /// A relative one starts at the working directory.
+    pub seals: Option<String>,
 }

@@ -54,10 +54,10 @@ pub(crate) fn zone_of(document: &Table, minutes: Option<Zone>) -> Result<Zone, S
 
 /// The path of the spool's file.
 pub(crate) fn spool_of(alloc: Global, document: &Table) -> Result<String, SettingsFault>
-    ensures { AnswersAs (λ spool. string_bytes spool) result (spec.required Key.Spool spec.spool_in (table_view document.now)) }
+    ensures { AnswersAs (λ spool. string_bytes spool) result (spec.required Key.Spool spec.path_in (table_view document.now)) }
 {
     match value_of(document, Key::Spool) {
-        Some(value) => spool_in(alloc, value),
+        Some(value) => path_in(alloc, Key::Spool, value),
         None => Err(SettingsFault::Missing(Key::Spool)),
     }
 }
@@ -69,6 +69,19 @@ pub(crate) fn admins_of(alloc: Global, document: &Table) -> Result<Vec<Word>, Se
     match value_of(document, Key::Admins) {
         Some(value) => admins_in(alloc, value),
         None => Ok(Vec::new(alloc)),
+    }
+}
+
+/// The folder with the keys of neighbours, if it is given.
+pub(crate) fn seals_of(alloc: Global, document: &Table) -> Result<Option<String>, SettingsFault>
+    ensures { AnswersAs (λ path. option_map string_bytes path) result (spec.seals (table_view document.now)) }
+{
+    match value_of(document, Key::Seals) {
+        Some(value) => match path_in(alloc, Key::Seals, value) {
+            Ok(path) => Ok(Some(path)),
+            Err(fault) => Err(fault),
+        },
+        None => Ok(None),
     }
 }
 
@@ -125,13 +138,13 @@ fn zone_in(value: &Value) -> Result<Zone, SettingsFault>
     }
 }
 
-// The value as a path.
-fn spool_in(alloc: Global, value: &Value) -> Result<String, SettingsFault>
-    ensures { AnswersAs (λ spool. string_bytes spool) result (ok_or (spec.spool_in (view value.now)) (SettingsFault.BadValue Key.Spool)) }
+// The value of a key as a path.
+fn path_in(alloc: Global, key: Key, value: &Value) -> Result<String, SettingsFault>
+    ensures { AnswersAs (λ path. string_bytes path) result (ok_or (spec.path_in (view value.now)) (SettingsFault.BadValue key)) }
 {
     match value.as_str() {
         Some(path) if !path.is_empty() => Ok(String::from_str(alloc, path)?),
-        _ => Err(SettingsFault::BadValue(Key::Spool)),
+        _ => Err(SettingsFault::BadValue(key)),
     }
 }
 

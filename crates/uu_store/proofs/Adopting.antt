@@ -1,7 +1,6 @@
 -- Taking a database as a spool, as the beginning of a stretch.
-use Rattle.std.proofs.Common.{◌≡◌, false, inl, inr, ℕ, List, Result, Ok, sym, ap, subst, ◌∙◌}
+use Rattle.std.proofs.Common.{◌≡◌, false, inl, inr, ℕ, List, Result, Ok, sym, subst}
 use Rattle.std.proofs.Math.Logic.{∥∥₁_map}
-use Rattle.sqlite.specs.Effect.{Database}
 use Rattle.sqlite.specs.Store.{Ghosts}
 use Rattle.sqlite.specs.Held.{Held, state}
 use Rattle.sqlite.specs.State as db
@@ -66,14 +65,6 @@ module _ {S : Type 0} (g : Ghosts S) (was now : Held S) where
 
   pub turned_away_as : (r : Result (Unit {0}) StoreFault) → Settles a → (¬ HasNone a.now.schema → (HasEarlier a.now.schema → IsRefused r) → IsSpared a b r) → ((v : Version) → IsEarlierVersion v → MigratesState v a b r) → CreatesTables a b r → StaysUnclean a b → TurnedAway g was now
   turned_away_as r settles spared migrates creates stays = record { stop = λ clean s rests stores. keeps_as s (stops_as a b r settles clean rests spared migrates creates) stores; clean = stays }
-
--- a connection at rest leaves what it stores
-pub rests_leaves : (s : State) (a : db.State) → Settles a → Rests a → Stores a.now s → KeepsOnly a.may_leave s
-rests_leaves s a settles rests (inl (v, enc)) trees may =
-    let is : trees ≡ a.now.trees = settles trees rests.is_open may ∙ sym (ap (λ (d : Database). d.trees) rests.settled) in
-    inl (v, subst (IsSound (schema_of v)) (sym is) enc.stands.sound, subst (λ t. HoldsStateAs v t s) (sym is) enc.holds)
-rests_leaves s a settles rests (inr none) trees may =
-    let is = settles trees rests.is_open may in inr (subst (IsSound no_schema) (sym (is ∙ sym (ap (λ (d : Database). d.trees) rests.settled))) none.0.sound, none.1)
 
 -- ---- what is stored is shown
 

@@ -19,7 +19,7 @@ use Rattle.uu_core.specs.Run.{state_after}
 use Rattle.uu_schema.specs.declared.fault.StoreFault.{StoreFault}
 use Rattle.uu_store.specs.declared.spool.Spool.{Spool}
 use Rattle.uu_store.specs.Kept.{Keeps, KeepsEither}
-use Rattle.uu_store.specs.Spool.{connection_of, disk}
+use Rattle.uu_store.specs.Spool.{connection_of}
 use Rattle.uu_store.specs.Runs.{Ran}
 use Rattle.uu_store.specs.Exchanges.{Exchange, exchange_of, Counts, Passes}
 use Rattle.uu_store.specs.Stretches.{Stretch, IsLetGo, stretch}

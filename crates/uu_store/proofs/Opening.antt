@@ -201,15 +201,15 @@ away_named image opened found stopped fault away clean = away_rightly image open
 
 -- ---- if nothing was opened
 
-of_database : (error : Error) → (error ≡ SqliteFailure CannotOpen) ⊎ ((error ≡ SqliteFailure OutOfMemory) ⊎ (error ≡ SqliteFailure DatabaseBusy)) → kind_of_error error ≡ part.Database
-of_database error (inl is) = ap kind_of_error is
-of_database error (inr (inl is)) = ap kind_of_error is
-of_database error (inr (inr is)) = ap kind_of_error is
+of_database : (error : Error) → (error ≡ SqliteFailure CannotOpen) ⊎ ((error ≡ SqliteFailure OutOfMemory) ⊎ (error ≡ SqliteFailure DatabaseBusy)) → (kind_of_error error ≡ part.Database) ⊎ (kind_of_error error ≡ part.Busy)
+of_database error (inl is) = inl (ap kind_of_error is)
+of_database error (inr (inl is)) = inl (ap kind_of_error is)
+of_database error (inr (inr is)) = inr (ap kind_of_error is)
 
 refused_as : (error : Error) (fault : StoreFault) → (fault ≢ Failed) × IsOfNoContents fault → ((kind : StoreKind) → fault ≡ Store kind → kind ≡ kind_of_error error)
-    → (error ≡ SqliteFailure CannotOpen) ⊎ ((error ≡ SqliteFailure OutOfMemory) ⊎ (error ≡ SqliteFailure DatabaseBusy)) → (fault ≡ Memory) ⊎ (fault ≡ Store part.Database)
+    → (error ≡ SqliteFailure CannotOpen) ⊎ ((error ≡ SqliteFailure OutOfMemory) ⊎ (error ≡ SqliteFailure DatabaseBusy)) → (fault ≡ Memory) ⊎ ((fault ≡ Store part.Database) ⊎ (fault ≡ Store part.Busy))
 refused_as error Memory named kinds why = inl refl
-refused_as error (Store kind) named kinds why = inr (ap Store (kinds kind refl ∙ of_database error why))
+refused_as error (Store kind) named kinds why = inr (elim (of_database error why) [ inl is ↦ inl (ap Store (kinds kind refl ∙ is)) | inr is ↦ inr (ap Store (kinds kind refl ∙ is)) ])
 refused_as error Failed named kinds why = absurd (named.0 refl)
 refused_as error Foreign named kinds why = absurd (named.1.0 refl)
 refused_as error Newer named kinds why = absurd (named.1.1 refl)

@@ -1,6 +1,6 @@
 -- A command of a spool, and a bundle: the facts are asked first, and then it is carried out.
 use Rattle.std.specs.declared.alloc.Global.{Global}
-use Rattle.std.proofs.Common.{◌≡◌, ◌⊎◌, ◌∙◌, inl, inr, ℕ, ◌+◌, Bool, false, List, [], ◌∷◌, length, Result, Ok, Err, arith, refl, ap, sym, subst}
+use Rattle.std.proofs.Common.{◌≡◌, ◌⊎◌, ◌∙◌, inl, inr, ◌+◌, Bool, false, List, [], ◌∷◌, length, Result, Ok, Err, arith, refl, ap, sym, subst}
 use Rattle.std.specs.Prelude.{IfOk, MatchResult, Vec}
 use Rattle.std.proofs.lemmas.List.{length-map}
 use Rattle.std.proofs.lemmas.Result.{IfOk-weaker}

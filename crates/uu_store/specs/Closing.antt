@@ -43,8 +43,9 @@ pub record IsClosed {D : Type 0} {g : disk.Ghosts D} (spool : Spool (FileStore D
   pub stop : AreClean g files.log files.db → (s : State) → Shows spool s → (image : Image) → outcomes g files.log files.db image → KeepsAlone image s
 
 -- Why a close failed: its kind is `Disk` only if the disk failed or refused a call meanwhile, and
--- never `Size`. (Out of memory and a store that was closed before are `Database`.)
+-- never `Size` or `Busy`. (Out of memory and a store that was closed before are `Database`.)
 abbrev pub HasCause : {D : Type 0} {g : disk.Ghosts D} → StoreKind → FileStore D g → FileStore D g → Type 0
 HasCause part.Disk was last = MoreFaults (store.faults was) (store.faults last)
 HasCause part.Size was last = ⊥
+HasCause part.Busy was last = ⊥
 HasCause part.Database was last = ⊤

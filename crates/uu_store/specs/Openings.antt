@@ -163,20 +163,22 @@ module _ {D : Type 0} {g : disk.Ghosts D} where
       IsTrue (store.view it).is_clean → (trees : Trees) → HoldsDatabase before trees → ((schema : Schema) → IsSound schema trees → StaysAfter fault schema) → (image : Image) → (store.state it).may_leave image → ∥ HoldsDatabase image trees ∥₁
 
   -- Why no database was opened in files with these contents: they aren't a database, the disk
-  -- failed or refused a call, or a file is as long as it can be. The kind is never `Size`.
+  -- failed or refused a call, or a file is as long as it can be. The kind is never `Size`, and never
+  -- `Busy`, because files that another process has open aren't opened.
   abbrev pub HasOpeningCause : Image → StoreKind → Leftover D g → Type 0
   HasOpeningCause before kind.Disk it = (¬ IsOpenable before) ⊎ ((0 < faults_left it) ⊎ IsFullLeft it)
   HasOpeningCause before kind.Size it = ⊥
+  HasOpeningCause before kind.Busy it = ⊥
   HasOpeningCause before kind.Database it = ¬ IsOpenable before
 
   -- The fault is right for the contents of the files. Only a database that was opened is called
   -- foreign or newer, and never one that keeps a state, nor files that held nothing. A database is
   -- called foreign if a name of the spool's tables is taken and no table says a version. If it has
   -- exactly the tables of a version, the fault is right for their rows. If no database was opened,
-  -- a fault of the store has a cause. If the files weren't opened, the system refused them, or
-  -- memory ran out.
+  -- a fault of the store has a cause. If the files weren't opened, the system refused them, another
+  -- process had them open, or memory ran out.
   abbrev pub IsRightFault : Image → StoreFault → Remains D g → Type 0
-  IsRightFault before fault remains.Unopened = (fault ≡ Memory) ⊎ (fault ≡ Store Database)
+  IsRightFault before fault remains.Unopened = (fault ≡ Memory) ⊎ ((fault ≡ Store kind.Database) ⊎ (fault ≡ Store kind.Busy))
   IsRightFault before fault (remains.Files it) = IsOfNoContents fault × (IsCleanLeft it → (which : StoreKind) → fault ≡ Store which → HasOpeningCause before which it)
   IsRightFault before fault (remains.Store it) =
       IsTrue (store.view it).is_clean → ((s : State) → ImageKeeps before s → IsOfNoContents fault) × (ImageHasUnversionedTables before → fault ≡ Foreign)

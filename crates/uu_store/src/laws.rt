@@ -7,13 +7,11 @@ ghost use Rattle.sqlite.specs.Files.{IsCleanLeft, image_of, over_files};
 ghost use Rattle.sqlite.specs.Tree.{Trees};
 ghost use Rattle.sqlite.specs.Held.{Held, state};
 ghost use Rattle.sqlite.specs.State as db;
-ghost use Rattle.sqlite.specs.State.{IsLive};
 ghost use Rattle.sqlite.specs.View.{IsClean};
 ghost use Rattle.sqlite_store.specs.FileStore.{state as files_of, view};
 ghost use Rattle.sqlite_wal.specs.Files.{outcomes};
 ghost use Rattle.sqlite_wal.specs.Reads.{AreClean};
 ghost use Rattle.sqlite_wal.specs.Recovery.{Image};
-ghost use Rattle.uu_schema.specs.Steps.{Rests};
 ghost use Rattle.uu_core.specs.declared.command.Command.{Command};
 ghost use Rattle.uu_core.specs.declared.command.Reply.{Reply};
 ghost use Rattle.uu_core.specs.declared.custody.Key.{Key};
@@ -30,10 +28,9 @@ ghost use Rattle.uu_core.specs.declared.system.SystemRow.{SystemRow};
 ghost use Rattle.uu_schema.specs.Encoded.{EncodesAs, HoldsStateAs};
 ghost use Rattle.uu_store.specs.Closing.{IsClosed};
 ghost use Rattle.uu_store.specs.Spool.{connection_of};
-ghost use Rattle.uu_store.specs.Kept.{Stores, KeepsOnly};
 ghost use Rattle.uu_store.specs.Runs.{GoesOn, Ran};
 ghost use Rattle.uu_store.specs.Exchanges.{Exchange, exchange_of, not_given, Passes};
-ghost use Rattle.uu_store.specs.Stretches.{Adopted, Stretch, StretchOver, TurnedAway, IsLetGo, Passed, Reopens, LeadTo, AllStore, StoresAfter, Led, exchanges, as_stretch, stretch, exchanges_over};
+ghost use Rattle.uu_store.specs.Stretches.{Adopted, StretchOver, TurnedAway, IsLetGo, Passed, AllStore, StoresAfter, Led, as_stretch, stretch, exchanges_over};
 ghost use Rattle.uu_store.specs.Acknowledged.{IsAcknowledged, IsAcknowledgedUnder, IsAccountedFor, IsAccountedForUnder, StoresJob, StoresUnder};
 ghost use Rattle.uu_store.specs.Files.{FileStretch, FilePassed, AllFilesPassed, last_left, file_exchanges, AllKeep, KeepsAfter, KeepsJob, KeepsUnder, IsStretch, IsClosedStretch};
 ghost use Rattle.uu_store.specs.Files.{let_go_after, closed_after, not_started_for};
@@ -83,46 +80,15 @@ pub fn runs_are_one_run<S: Alter>()
     runs_follow_one_another();
 }
 
-/// A connection at rest leaves what it stores, and an opening after a stop may find it unchanged.
-pub fn a_store_at_rest_leaves_what_it_stores<S: Alter>()
-    ensures left { (held : Held S) (s : State) → Rests (state S.Store held) → Stores (state S.Store held).now s → KeepsOnly (state S.Store held).may_leave s }
-    ensures again { (held : Held S) → Rests (state S.Store held) → IsLive (state S.Store held) → Reopens (state S.Store held).may_leave (state S.Store held) }
-{}
-
-/// Stretches of work that follow one another: what could be left before them, the stretches, and
-/// what an opening after the last one found.
-pub trait History {
-    ghost before: { Trees → Type 0 };
-
-    ghost stretches: { List Stretch };
-
-    ghost found: { db.State };
-}
-
-/// A spool gets any commands and bundles, over any stretches, and each stretch is stopped at any
-/// point. What is found then stores exactly the state that the machine reaches by the commands that
-/// count. In each stretch these are a prefix of its commands, with every command that was answered,
-/// and with the same replies. If the store failed, at most the request in hand counts too, whole:
-/// one command, or all those of a bundle.
+/// A spool over a store of any kind gets any commands and bundles, over any stretches, and each
+/// stretch is stopped at any point. What is found then stores exactly the state that the machine
+/// reaches by the commands that count. In each stretch these are a prefix of its commands, with
+/// every command that was answered, and with the same replies. If the store failed, at most the
+/// request in hand counts too, whole: one command, or all those of a bundle.
 ///
 /// Each opening on the way found what counts until then (`throughout`). An acknowledged job is
 /// there, unless an accepted command removed it. If its number was given to a key, this holds of
 /// the job that was handed in first under the key (`keys`).
-pub fn no_answered_command_is_lost<H: History>()
-    ensures commands { (s : State) → KeepsOnly H.before s → LeadTo H.before H.stretches H.found → ∥ StoresAfter s (exchanges H.stretches) H.found ∥₁ }
-    ensures jobs { (s : State) (new : NewJob) (number : ℕ) → KeepsOnly H.before s → LeadTo H.before H.stretches H.found
-        → IsAcknowledged (exchanges H.stretches) new number → ∥ StoresJob s (exchanges H.stretches) new number H.found ∥₁ }
-    ensures keys { (s : State) (key : Key) (new : NewJob) (number : ℕ) → KeepsOnly H.before s → LeadTo H.before H.stretches H.found
-        → IsAcknowledgedUnder (exchanges H.stretches) key new number → ∥ StoresUnder s (exchanges H.stretches) key number H.found ∥₁ }
-    ensures throughout { (s : State) → KeepsOnly H.before s → LeadTo H.before H.stretches H.found → ∥ AllStore s H.stretches H.found ∥₁ }
-{
-    runs_follow_one_another();
-    states_stay_well_formed();
-    acknowledged_jobs_are_accounted_for();
-}
-
-/// What [`no_answered_command_is_lost`] says, for stretches over a store of one kind. Here they are
-/// values, and need no trait.
 pub fn no_answered_command_is_lost_over<S: Alter>()
     ensures commands { (s : State) (before : Held S) (stretches : List (StretchOver S)) (found : Held S)
         → Led S.Store s before stretches found → ∥ StoresAfter s (exchanges_over S.Store stretches) (state S.Store found) ∥₁ }

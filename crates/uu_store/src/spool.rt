@@ -15,10 +15,10 @@ use std::alloc::Global;
 use std::mem::drop;
 use uu_core::laws::{commands_are_sound, states_stay_well_formed, take_ins_are_sound};
 use uu_core::{Command, Due, Filter, JobHead, Refusal, Reply, SystemRow, TakeIn, Taken};
-use uu_names::SiteName;
+use uu_names::{Listed, SiteName};
 use uu_questions::{
-    all_systems, entry_of_host, facts_for, facts_for_take_in, job_of_number, list_jobs,
-    next_number, refusal_of, systems_due, taken_from,
+    all_entries, all_systems, entry_of_host, facts_for, facts_for_take_in, job_of_number,
+    list_jobs, next_number, refusal_of, systems_due, taken_from,
 };
 use uu_schema::{StoreFault, StoreKind, store_fault};
 use uu_statements::carry_out;
@@ -376,6 +376,20 @@ impl<S: Alter> Spool<S> {
         }
         let found = entry_of_host(alloc, &mut self.conn, host);
         self.told(found)
+    }
+
+    /// The texts of all map entries, in byte order of their hosts.
+    ///
+    /// # Errors
+    /// As [`Spool::jobs`].
+    pub fn entries(&mut self, alloc: Global) -> Result<Vec<Listed<u8>>, StoreFault>
+        ensures question { IsQuestion (λ s texts. texts.items ≡ map (λ entry. entry.bytes) s.entries) self.old self.new result }
+    {
+        if self.is_failed() {
+            return Err(StoreFault::Failed);
+        }
+        let texts = all_entries(alloc, &mut self.conn);
+        self.told(texts)
     }
 
     /// What was taken from the neighbour of this name, by its number there; nothing if nothing is

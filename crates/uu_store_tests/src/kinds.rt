@@ -99,11 +99,12 @@ fn an_adoption_tells_of_the_database(rt: HostRuntime) {
 }
 
 /// The kinds for errors of the database.
-const KINDS: [(ErrorCode, StoreKind); 8] = [
+const KINDS: [(ErrorCode, StoreKind); 9] = [
     (ErrorCode::SystemIoFailure, StoreKind::Disk),
     (ErrorCode::DatabaseCorrupt, StoreKind::Disk),
     (ErrorCode::DiskFull, StoreKind::Disk),
     (ErrorCode::TooBig, StoreKind::Size),
+    (ErrorCode::DatabaseBusy, StoreKind::Busy),
     (ErrorCode::Closed, StoreKind::Database),
     (ErrorCode::CannotOpen, StoreKind::Database),
     (ErrorCode::NotADatabase, StoreKind::Database),

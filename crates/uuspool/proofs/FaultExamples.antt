@@ -9,6 +9,7 @@ use Rattle.uu_schema.specs.declared.fault.StoreKind.TheVariants as kind
 use Rattle.uu_request.specs.declared.fault.WrongBundle.TheVariants as wrong
 use Rattle.uu_settings.specs.declared.fault.Key.TheVariants as key
 use Rattle.uu_settings.specs.declared.fault.SettingsFault.TheVariants as settings
+use Rattle.uu_settings.specs.declared.fault.TomlFault.{TomlFault}
 use Rattle.uuspool.specs.declared.fault.Fault.{Fault}
 use Rattle.uuspool.specs.declared.fault.Fault.TheVariants as fault
 use Rattle.uuspool.specs.Faults.{code_of, line_of_fault, status_of}
@@ -24,8 +25,8 @@ words text help = refl
 
 -- ---- settings
 
-pub not_toml : IsTold (fault.Settings settings.NotToml) (codes "uuspool: settings: not toml") 2 2
-not_toml = (refl, refl, refl)
+pub not_toml : (why : TomlFault) → IsTold (fault.Settings (settings.NotToml why)) (codes "uuspool: settings: not toml") 2 2
+not_toml why = (refl, refl, refl)
 
 pub name_missing : IsTold (fault.Settings (settings.Missing key.Name)) (codes "uuspool: settings: name missing") 2 2
 name_missing = (refl, refl, refl)

@@ -12,6 +12,7 @@ pub mod PackedLemmas
 pub mod PairLemmas
 pub mod Places
 pub mod ReleaseLemmas
+pub mod RoutingLemmas
 pub mod ServedLemmas
 pub mod ServesLemmas
 pub mod ServedLinesLemmas

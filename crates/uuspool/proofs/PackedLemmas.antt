@@ -9,7 +9,7 @@ use Rattle.sqlite_keyed.proofs.ListLemmas.{filter-map}
 use Rattle.uu_names.specs.Grade.{grade_count}
 use Rattle.uu_names.specs.Name.{is_site_name, is_word}
 use Rattle.uu_names.proofs.Basics.{found_has}
-use Rattle.uu_bundle.specs.Bundles.{AreTaken, IsBundle, IsGiven, answer_front_text, answer_bundle, bundle_text, front_text, jobs_with_room, packed_bundle, takes_job, told_of, told_with_room, text_with_refused, most_told}
+use Rattle.uu_bundle.specs.Bundles.{AreTaken, IsBundle, IsGiven, answer_front_text, answer_bundle, bundle_text, front_text, half, jobs_with_room, most_bundle, packed_bundle, takes_job, told_first, told_of, told_with_room, text_with_refused}
 use Rattle.uu_bundle.specs.Texts.{IsHeading, IsRefused, heading_text, record_text}
 use Rattle.uu_bundle.specs.declared.bundle.Bundle.{Bundle}
 use Rattle.uu_bundle.specs.declared.bundle.Heading.{Heading}
@@ -33,7 +33,7 @@ use Rattle.uu_request.specs.Carried.{bundle_crossing, said_of}
 use Rattle.uu_request.specs.Carried as carried
 use Rattle.uu_request.specs.declared.request.Answering.{Answering}
 use Rattle.uu_request.specs.declared.request.Packing.{Packing}
-use Rattle.uuspool.specs.Bundles.{AreToGo, AreToGoUnless, IsAnswerText, IsBundleText, IsPacked, answer_of, bundle_of, hands_in, heading_for, parcel_for, parcels_for, refused_among, refused_for, taken_among}
+use Rattle.uuspool.specs.Bundles.{AreToGo, AreToGoUnless, IsAnswerText, IsBundleText, IsPacked, answer_of, bundle_of, hands_in, heading_for, most_of, parcel_for, parcels_for, refused_among, refused_for, taken_among}
 
 pub packed_text : (known : Bool) (IsText : List ℕ → Type 0) (output : List ℕ) → IsPacked known IsText output 0 → IsText output
 packed_text true IsText output it = it.0
@@ -50,12 +50,12 @@ all_unmapped P f [] all = All-nil (λ x. P (f x))
 all_unmapped P f (x ∷ xs) all = All-cons (λ x. P (f x)) x xs (All-head P (f x) (map f xs) all) (all_unmapped P f xs (All-tail P (f x) (map f xs) all))
 
 -- the bundle has as much of what was taken as there is room for
-told_front : (text : List ℕ) (taken : List Taken) → IsFront (told_with_room text taken) taken
-told_front text [] = record { rest = []; is = refl }
-told_front text (one ∷ taken) =
+told_front : (first further : ℕ) (text : List ℕ) (taken : List Taken) → IsFront (told_with_room first further text taken) taken
+told_front first further text [] = record { rest = []; is = refl }
+told_front first further text (one ∷ taken) =
     let more = text ++ record_text (Has (told_of one)) in
-    let behind = told_front more taken in
-    elim (nat_le (length more) most_told) as (λ b. IsFront (cond b (one ∷ told_with_room more taken) []) (one ∷ taken)) [
+    let behind = told_front further further more taken in
+    elim (nat_le (length more) first) as (λ b. IsFront (cond b (one ∷ told_with_room further further more taken) []) (one ∷ taken)) [
       | true ↦ record { rest = behind.rest; is = ap (λ rows. one ∷ rows) behind.is }
       | false ↦ record { rest = one ∷ taken; is = refl }
     ]
@@ -69,12 +69,12 @@ module _ (own : List ℕ) (it : Packing) where
   abbrev Going : List Parcel → List Job → Type 0
   Going parcels jobs = (first : List Job) × IsFront first jobs × (parcels ≡ map parcel first)
 
-  room_first : (text : List ℕ) (jobs : List Job) → Going (jobs_with_room text (map parcel jobs)) jobs
-  room_first text [] = ([], record { rest = []; is = refl }, refl)
-  room_first text (job ∷ jobs) =
+  room_first : (first further : ℕ) (text : List ℕ) (jobs : List Job) → Going (jobs_with_room first further text (map parcel jobs)) jobs
+  room_first first further text [] = ([], record { rest = []; is = refl }, refl)
+  room_first first further text (job ∷ jobs) =
       let more = text ++ record_text (JobRecord (parcel job)) in
-      let behind = room_first more jobs in
-      elim (takes_job text (parcel job)) as (λ b. Going (cond b (parcel job ∷ jobs_with_room more (map parcel jobs)) []) (job ∷ jobs)) [
+      let behind = room_first further further more jobs in
+      elim (takes_job first text (parcel job)) as (λ b. Going (cond b (parcel job ∷ jobs_with_room further further more (map parcel jobs)) []) (job ∷ jobs)) [
         | true ↦ (job ∷ behind.0, record { rest = behind.1.rest; is = ap (λ js. job ∷ js) behind.1.is }, ap (λ ps. parcel job ∷ ps) behind.2)
         | false ↦ ([], record { rest = job ∷ jobs; is = refl }, refl)
       ]
@@ -170,10 +170,10 @@ module _ (own : List ℕ) (it : Packing) (s : State) (good : IsWellFormed s) whe
   -- a bundle with these rows of what was taken, and with the first of these jobs
   said : Fronts → (lowest : ℕ) (jobs : List Job) (part : List Taken) (refused : List Refused) (text : List ℕ) → AreToGo it lowest s jobs
       → ((P : Taken → Type 0) → All P (link_of s it.system).taken → All P part)
-      → (bundle : Bundle) → bundle.from ≡ own → bundle.to ≡ it.system → bundle.below ≡ below_of it.system s → bundle.has ≡ map told_of part → bundle.jobs ≡ jobs_with_room text (parcels_for own it jobs)
+      → (bundle : Bundle) → bundle.from ≡ own → bundle.to ≡ it.system → bundle.below ≡ below_of it.system s → bundle.has ≡ map told_of part → bundle.jobs ≡ jobs_with_room most_bundle (most_of it) text (parcels_for own it jobs)
       → IsSaid own it.system (bundle_crossing own it.system it.spool).mark s (said_of bundle)
   said fronts lowest jobs part refused text are of_part bundle from to below has is =
-      let going = room_first own it text jobs in record {
+      let going = room_first own it most_bundle (most_of it) text jobs in record {
         from = from;
         to = to;
         below = below;
@@ -186,7 +186,7 @@ module _ (own : List ℕ) (it : Packing) (s : State) (good : IsWellFormed s) whe
 -- ---- what is packed
 
 abbrev pub SoundBundle : Type 0
-SoundBundle = (heading : Heading) (taken : List Taken) (jobs : List Parcel) → IsHeading heading → AreTaken taken → All (IsGiven heading) jobs → IsBundle (packed_bundle heading taken jobs)
+SoundBundle = (most : ℕ) (heading : Heading) (taken : List Taken) (jobs : List Parcel) → IsHeading heading → AreTaken taken → All (IsGiven heading) jobs → IsBundle (packed_bundle most heading taken jobs)
 
 pub packed_may_be_said : SoundBundle → Fronts → (own : List ℕ) (it : Packing) (s : State) (known : Bool) (output : List ℕ)
     → IsWellFormed s → IsTrue (is_site_name own) → IsTrue (is_site_name it.system) → IsTrue (is_word it.spool) → it.grade < grade_count → IsPacked known (IsBundleText own it s) output 0
@@ -195,13 +195,13 @@ packed_may_be_said sound fronts own it s known output good from to spool grade p
     let text = packed_text known (IsBundleText own it s) output packs in
     let heading = heading_for own it s in
     let taken = (link_of s it.system).taken in
-    let part = told_with_room (heading_text heading) taken in
-    let front = told_front (heading_text heading) taken in (
+    let part = told_first (most_of it) heading taken in
+    let front = told_front (half most_bundle) (half (most_of it)) (heading_text heading) taken in (
       bundle_of own it s text.jobs,
       text.is,
-      sound heading taken (parcels_for own it text.jobs) (headed own it s good from to spool grade) (taken_within it.system s good) (given own it s good it.grade text.jobs text.are),
+      sound (most_of it) heading taken (parcels_for own it text.jobs) (headed own it s good from to spool grade) (taken_within it.system s good) (given own it s good it.grade text.jobs text.are),
       refl,
-      said own it s good fronts it.grade text.jobs part [] (front_text heading taken) text.are (λ P all. all_front P part front.rest (subst (All P) front.is all))
+      said own it s good fronts it.grade text.jobs part [] (front_text (most_of it) heading taken) text.are (λ P all. all_front P part front.rest (subst (All P) front.is all))
           (bundle_of own it s text.jobs) refl refl refl refl refl,
     )
 
@@ -249,8 +249,8 @@ module _ (system : List ℕ) (make : Packed → NewJob) (s : State) where
           All-cons IsRefused (record { number = packed.parcel.number; mark = packed.mark; reason = reason }) [] (record { number = numbered.0; mark = numbered.1 }) (All-nil IsRefused)
 
 abbrev pub SoundAnswer : Type 0
-SoundAnswer = (heading : Heading) (taken : List Taken) (refused : List Refused) (jobs : List Parcel) → IsHeading heading → AreTaken taken → All IsRefused refused → All (IsGiven heading) jobs
-    → IsBundle (answer_bundle heading taken refused jobs)
+SoundAnswer = (most : ℕ) (heading : Heading) (taken : List Taken) (refused : List Refused) (jobs : List Parcel) → IsHeading heading → AreTaken taken → All IsRefused refused → All (IsGiven heading) jobs
+    → IsBundle (answer_bundle most heading taken refused jobs)
 
 pub answered_may_be_said : SoundAnswer → Fronts → (own : List ℕ) (it : Answering) (make : Packed → NewJob) (asked : List Packed) (s : State) (known : Bool) (output : List ℕ)
     → IsWellFormed s → IsTrue (is_site_name own) → IsTrue (is_site_name it.packing.system) → IsTrue (is_word it.packing.spool) → it.packing.grade < grade_count
@@ -270,7 +270,7 @@ answered_may_be_said sound fronts own it make asked s known output good from to 
     let hands : Taken → Bool = λ one. list_any (hands_in one) it.commands in (
       answer_of own it s text.jobs,
       text.is,
-      sound heading part refused (parcels_for own packing text.jobs) (headed own packing s good from to spool grade)
+      sound (most_of packing) heading part refused (parcels_for own packing text.jobs) (headed own packing s good from to spool grade)
           (record { numbers = All-filter hands IsKept taken kept.numbers; rising = AllPairs-filter (λ (a b : Taken). a.number < b.number) hands taken kept.rising })
           (subst (λ cs. All IsRefused (refused_among cs s)) (sym commands) (refused_are system make s asked numbered))
           (given own packing s good lowest text.jobs text.are),

@@ -1,7 +1,7 @@
 -- What is printed for the answer to a question about a state, and the status. All of it is this
 -- project's choice.
 use Rattle.std.specs.Prelude.{◌≡◌, ℕ, Option, Some, None, List, [], ◌∷◌, ◌++◌, codes, map}
-use Rattle.std.specs.List.{flat_map}
+use Rattle.std.specs.List.{AllZip, flat_map}
 use Rattle.uu_times.specs.Printed.{sys_text}
 use Rattle.uu_times.specs.declared.zone.Zone.{Zone}
 use Rattle.uu_map.specs.Entry.{IsEntry}
@@ -21,6 +21,7 @@ use Rattle.uu_report.specs.Reports.{IsJobLine, IsJobsReport, IsNextCallsReport, 
 use Rattle.uu_request.specs.declared.request.Question.{Question}
 use Rattle.uu_request.specs.declared.request.Question.TheVariants as question
 use Rattle.uuspool.specs.Bundles.{IsAnswerText, IsBundleText, IsPacked}
+use Rattle.uuspool.specs.Routes.{IsRouted}
 
 abbrev pub no_job : List ℕ
 no_job = codes "no job" ++ 10 ∷ []
@@ -58,6 +59,9 @@ IsAnswer settings s question.Systems output status = IsStatusReport settings.zon
 IsAnswer settings s (question.Definitions name) output status = (output ≡ sys_text (definitions_of name s.systems)) × (status ≡ 0)
 IsAnswer settings s (question.Entry host) output status = IsEntryShown (entry_at s host) output status
 IsAnswer settings s question.Name output status = (output ≡ line_of (settings.name ∷ [])) × (status ≡ 0)
+IsAnswer settings s (question.Routes name costs) output status =
+    (entries : List Entry) × AllZip IsEntry (map (λ kept. kept.bytes) s.entries) entries
+    × IsRouted entries settings.name (map (λ row. row.def.name) s.systems) name costs output status
 IsAnswer settings s (question.Pack it) output status = IsPacked (has_system s it.system) (IsBundleText settings.name it s) output status
 IsAnswer settings s (question.Answer it) output status =
     IsPacked (has_system s it.packing.system) (IsAnswerText settings.name it s) output status

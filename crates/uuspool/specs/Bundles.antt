@@ -1,7 +1,7 @@
 -- What a site has to say to a neighbour: the bundle of a state, and the one that answers a bundle
 -- of the neighbour's; and what becomes of the site's jobs in such a bundle. All of it is this
 -- project's choice.
-use Rattle.std.specs.Prelude.{◌≡◌, ◌&&◌, ◌==◌, ℕ, Bool, true, false, List, [], ◌∷◌, ◌++◌, codes, filter, map, min, nat_lt, Option, Some, None, if◌then◌else◌}
+use Rattle.std.specs.Prelude.{◌≡◌, ◌&&◌, ◌==◌, ℕ, Bool, true, false, List, [], ◌∷◌, ◌++◌, codes, filter, map, min, nat_lt, Option, Some, None, unwrap_or, if◌then◌else◌}
 use Rattle.std.specs.List.{flat_map, list_any}
 use Rattle.uu_handover.specs.Bundles.{AreWaiting, Told as HasTold, below_of, is_settled, settled_of}
 use Rattle.uu_handover.specs.Custody.{Parcel, parcel_of as as_parcel}
@@ -11,7 +11,7 @@ use Rattle.uu_core.specs.declared.command.Command.{Command}
 use Rattle.uu_core.specs.declared.command.Command.TheVariants.{QueueOnce, Release}
 use Rattle.uu_core.specs.declared.custody.Taken.{Taken}
 use Rattle.uu_core.specs.declared.refusal.Refusal.{Refusal}
-use Rattle.uu_bundle.specs.Bundles.{answer_bundle, bundle_text, packed_bundle, parcel_of}
+use Rattle.uu_bundle.specs.Bundles.{answer_bundle, bundle_text, most_bundle, packed_bundle, parcel_of}
 use Rattle.uu_bundle.specs.Marks.{mark_of}
 use Rattle.uu_bundle.specs.Texts.{marked_text}
 use Rattle.uu_bundle.specs.declared.bundle.Bundle.{Bundle}
@@ -47,12 +47,17 @@ AreToGo it lowest s jobs = AreToGoUnless it.no_jobs it lowest s jobs
 abbrev pub parcels_for : List ℕ → Packing → List Job → List BundledJob
 parcels_for from it jobs = map (parcel_for from it.system it.spool) jobs
 
+-- the most bytes that it has, but for its first job: those that are given, and never more than any
+-- bundle may have
+abbrev pub most_of : Packing → ℕ
+most_of it = min (unwrap_or it.most most_bundle) most_bundle
+
 -- ---- the bundle of a state
 
 -- it has as many of the neighbour's jobs that are kept as taken, and of the jobs that wait, as
 -- there is room for
 abbrev pub bundle_of : List ℕ → Packing → State → List Job → Bundle
-bundle_of from it s jobs = packed_bundle (heading_for from it s) (link_of s it.system).taken (parcels_for from it jobs)
+bundle_of from it s jobs = packed_bundle (most_of it) (heading_for from it s) (link_of s it.system).taken (parcels_for from it jobs)
 
 pub record IsBundleText (from : List ℕ) (it : Packing) (s : State) (text : List ℕ) : Type 0 where
   pub jobs : List Job
@@ -85,7 +90,7 @@ refused_among commands s = flat_map (λ command. refused_for command (verdict s 
 -- grade that the neighbour wants and of higher ones.
 abbrev pub answer_of : List ℕ → Answering → State → List Job → Bundle
 answer_of from it s jobs =
-    answer_bundle (heading_for from it.packing s) (taken_among it.commands (link_of s it.packing.system).taken) (refused_among it.commands s) (parcels_for from it.packing jobs)
+    answer_bundle (most_of it.packing) (heading_for from it.packing s) (taken_among it.commands (link_of s it.packing.system).taken) (refused_among it.commands s) (parcels_for from it.packing jobs)
 
 pub record IsAnswerText (from : List ℕ) (it : Answering) (s : State) (text : List ℕ) : Type 0 where
   pub jobs : List Job

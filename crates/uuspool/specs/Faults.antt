@@ -73,7 +73,7 @@ status_of (fault.Bundle why) = 2
 
 -- the text of a fault of the settings
 abbrev pub settings_text : SettingsFault → List ℕ
-settings_text settings.NotToml = codes "settings: not toml"
+settings_text (settings.NotToml why) = codes "settings: not toml"
 settings_text (settings.Missing key) = codes "settings: " ++ key_name key ++ codes " missing"
 settings_text (settings.BadValue key) = codes "settings: " ++ key_name key ++ codes " bad"
 settings_text settings.Memory = codes "out of memory"
@@ -132,6 +132,8 @@ abbrev pub bundle_fault_text : WrongBundle → List ℕ
 bundle_fault_text wrong.NoBundle = codes "bundle: NoBundle"
 bundle_fault_text wrong.OtherSender = codes "bundle: OtherSender"
 bundle_fault_text wrong.OtherSite = codes "bundle: OtherSite"
+bundle_fault_text wrong.OwnSite = codes "bundle: OwnSite"
+bundle_fault_text wrong.Sealed = codes "bundle: Sealed"
 
 -- the text of a fault of the spool
 abbrev pub store_text : StoreFault → List ℕ

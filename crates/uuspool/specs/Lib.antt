@@ -3,6 +3,7 @@ pub mod Input
 pub mod Lines
 pub mod Bundles
 pub mod Answers
+pub mod Routes
 pub mod Served
 pub mod ServedLines
 pub mod Batch

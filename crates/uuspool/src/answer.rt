@@ -25,6 +25,7 @@ ghost use Rattle.uuspool.specs.Served.{IsServed};
 use crate::bundles::{answer, pack};
 use crate::fault::Fault;
 use crate::print::print;
+use crate::routing::routes;
 use sqlite::Alter;
 use std::alloc::{AllocError, Global};
 use std::io::Write;
@@ -67,6 +68,9 @@ pub(crate) fn ask<S: Alter, W: Write>(
         Question::Definitions(name) => systems(alloc, name.as_ref(), settings, spool, out),
         Question::Entry(host) => neighbours(alloc, host, settings, spool, out),
         Question::Name => name(alloc, settings, spool, out),
+        Question::Routes(host, costs) => {
+            routes(alloc, host.as_ref(), *costs, settings, spool, out)
+        }
         Question::Pack(packing) => pack(alloc, packing, settings, spool, out),
         Question::Answer(answering) => answer(alloc, answering, settings, spool, out),
     }
@@ -350,8 +354,8 @@ fn name<S: Alter, W: Write>(
     print(name_text(alloc, settings), 0, out)
 }
 
-// The line of the site's name.
-fn name_text(alloc: Global, settings: &Settings) -> Result<Vec<u8>, AllocError>
+/// The line of the site's name, the answer to `name`.
+pub fn name_text(alloc: Global, settings: &Settings) -> Result<Vec<u8>, AllocError>
     ensures { IfOk result (λ text. text.items ≡ line_of (settings.now.name ∷ [])) }
 {
     let name = settings.name.as_str();

@@ -1,15 +1,15 @@
 //! What a site has to say to a neighbour: the bundle for it, and the one that answers the
 //! neighbour's own.
 
-ghost use Rattle.std.specs.Prelude.{◌≡◌, ℕ, min, List, Some, false, IfOk, map, ⊤, option_map};
+ghost use Rattle.std.specs.Prelude.{◌≡◌, ℕ, min, List, Some, false, IfOk, map, ⊤, option_map, unwrap_or};
 ghost use Rattle.std.specs.Io.KnownBytes.{Appends};
 ghost use Rattle.std.specs.List.{list_any};
-ghost use Rattle.uu_bundle.specs.Bundles.{front_text, takes_job, text_with_job, text_with_jobs};
+ghost use Rattle.uu_bundle.specs.Bundles.{front_text, most_bundle, takes_job, text_with_job, text_with_jobs};
 ghost use Rattle.uu_core.specs.State.{Job, has_system, is_system, job_at, link_of};
 ghost use Rattle.uu_request.specs.declared.request.Question.TheVariants as question;
 ghost use Rattle.uu_request.specs.declared.request.Request.TheVariants as request;
 ghost use Rattle.uu_store.specs.Spool.{has_failed};
-ghost use Rattle.uuspool.specs.Bundles.{IsAnswerText, IsBundleText, parcel_for, parcels_for};
+ghost use Rattle.uuspool.specs.Bundles.{IsAnswerText, IsBundleText, most_of, parcel_for, parcels_for};
 ghost use Rattle.uuspool.specs.Internal.Asked.{ArePacked, AreThere, IsAsked, IsBundleFor, heading_with};
 ghost use Rattle.uuspool.specs.Served.{IsServed};
 
@@ -21,7 +21,7 @@ use sqlite::Alter;
 use std::alloc::{AllocError, Global};
 use std::io::Write;
 use uu_bundle::laws::{pieces_make_a_bundle, pieces_make_an_answer};
-use uu_bundle::{add_job, begin_bundle, end_bundle};
+use uu_bundle::{MAX_BUNDLE, add_job, begin_bundle, end_bundle};
 use uu_core::{Filter, SystemRow};
 use uu_names::{Grade, SiteName};
 use uu_questions::laws::jobs_are_listed_in_order;
@@ -194,7 +194,7 @@ fn begin<S: Alter>(
     below: u32,
     spool: &mut Spool<S>,
 ) -> Result<Vec<u8>, StoreFault>
-    ensures { IsAsked (λ s. ⊤) (λ s text. text.items ≡ front_text (heading_with own.now packing.now below) (link_of s packing.now.system).taken) spool.old spool.new result }
+    ensures { IsAsked (λ s. ⊤) (λ s text. text.items ≡ front_text (most_of packing.now) (heading_with own.now packing.now below) (link_of s packing.now.system).taken) spool.old spool.new result }
 {
     let taken = spool.taken(alloc, &packing.system)?;
     let text = begin_bundle(
@@ -205,11 +205,20 @@ fn begin<S: Alter>(
         below,
         packing.grade,
         &taken,
+        limit_of(packing.most),
     )?;
     Ok(text)
 }
 
-// Adds the jobs of these numbers, one after the other, until one doesn't fit.
+// The most bytes of a bundle, but for its first job, if these are given.
+fn limit_of(given: Option<u32>) -> u32
+    ensures { result ≡ min (unwrap_or given most_bundle) most_bundle }
+{
+    given.unwrap_or(MAX_BUNDLE).min(MAX_BUNDLE)
+}
+
+// Adds the jobs of these numbers, one after the other, until one doesn't fit. The first one may make
+// the bundle longer than it is to be.
 fn add_jobs<S: Alter>(
     alloc: Global,
     own: &SiteName,
@@ -220,33 +229,46 @@ fn add_jobs<S: Alter>(
 ) -> Result<(), StoreFault>
     requires { has_failed spool.old ≡ false }
     ensures { (jobs : List Job) → numbers.now ≡ map (λ job. job.number) jobs
-        → IsAsked (AreThere jobs) (λ s done. text.new.items ≡ text_with_jobs text.old.items (parcels_for own.now packing.now jobs)) spool.old spool.new result }
+        → IsAsked (AreThere jobs) (λ s done. text.new.items ≡ text_with_jobs most_bundle (most_of packing.now) text.old.items (parcels_for own.now packing.now jobs)) spool.old spool.new result }
 {
+    let mut room = MAX_BUNDLE;
     for number in numbers {
-        if !add_one(alloc, own, packing, *number, spool, text)? {
+        if !add_one(alloc, own, packing, *number, room, spool, text)? {
             return Ok(());
         }
+        room = limit_of(packing.most);
     }
     Ok(())
 }
 
-// Adds the job of this number, if there is room for it. A spool has each job that it lists.
+// Adds the job of this number, if a bundle of this many bytes has room for it. A spool has each job
+// that it lists.
 fn add_one<S: Alter>(
     alloc: Global,
     own: &SiteName,
     packing: &Packing,
     number: u32,
+    room: u32,
     spool: &mut Spool<S>,
     text: &mut Vec<u8>,
 ) -> Result<bool, StoreFault>
     ensures { (job : Job) → IsAsked (λ s. job_at s number ≡ Some job)
-        (λ s added. (added ≡ takes_job text.old.items (parcel_for own.now packing.now.system packing.now.spool job)) × (text.new.items ≡ text_with_job text.old.items (parcel_for own.now packing.now.system packing.now.spool job)))
+        (λ s added. (added ≡ takes_job room text.old.items (parcel_for own.now packing.now.system packing.now.spool job)) × (text.new.items ≡ text_with_job room text.old.items (parcel_for own.now packing.now.system packing.now.spool job)))
         spool.old spool.new result }
 {
     match spool.job(alloc, number) {
         Ok(Some((head, bytes))) => {
             let system = &packing.system;
-            match add_job(alloc, own, system, &packing.spool, &head, &bytes, text) {
+            match add_job(
+                alloc,
+                own,
+                system,
+                &packing.spool,
+                &head,
+                &bytes,
+                room,
+                text,
+            ) {
                 Ok(added) => Ok(added),
                 Err(_) => Err(StoreFault::Memory),
             }

@@ -44,7 +44,8 @@ pub enum Fault {
     Write,
     /// Out of memory.
     Memory,
-    /// The input isn't a bundle, or is one from another sender or for another site.
+    /// The site exchanges no bundles with the other, or the input isn't a bundle, or is one from
+    /// another sender or for another site.
     Bundle(WrongBundle),
 }
 
@@ -221,7 +222,7 @@ fn write_settings<W: fmt::Write>(fault: SettingsFault, f: &mut fmt::Formatter<W>
     ensures { DisplaysOnOk W.write_str_gives f.old result (Some (settings_text fault)) f.new }
 {
     match fault {
-        SettingsFault::NotToml => f.write_str("settings: not toml"),
+        SettingsFault::NotToml(_) => f.write_str("settings: not toml"),
         SettingsFault::Missing(key) => {
             let key = key.name();
             write!(f, "settings: {key} missing")
@@ -255,6 +256,8 @@ fn bundle_text(fault: WrongBundle) -> &'static str
         WrongBundle::NoBundle => "bundle: NoBundle",
         WrongBundle::OtherSender => "bundle: OtherSender",
         WrongBundle::OtherSite => "bundle: OtherSite",
+        WrongBundle::OwnSite => "bundle: OwnSite",
+        WrongBundle::Sealed => "bundle: Sealed",
     }
 }
 

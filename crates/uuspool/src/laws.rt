@@ -1,5 +1,5 @@
 //! What follows from the definitions.
-ghost use Rattle.std.specs.Prelude.{◌≡◌, ◌<◌, ◌^◌, ℕ, List, Option, [], All, IsTrue, None, Some, Ok, false, filter, map, not, take};
+ghost use Rattle.std.specs.Prelude.{◌≡◌, ◌<◌, ◌^◌, ℕ, List, Option, [], All, IsTrue, None, Some, Ok, filter, map, not, take};
 ghost use Rattle.std.specs.List.{flat_map};
 ghost use Rattle.uu_names.specs.Grade.{grade_count};
 ghost use Rattle.uu_names.specs.Name.{is_site_name, is_word};
@@ -7,26 +7,19 @@ ghost use Rattle.uu_times.specs.declared.moment.Moment.{Moment};
 ghost use Rattle.uu_bundle.specs.Bundles.{IsBundle, bundle_text};
 ghost use Rattle.uu_bundle.specs.declared.bundle.Bundle.{Bundle};
 ghost use Rattle.uu_handover.specs.Bundles.{IsAnswerBundle as IsTrueAnswer, IsSaid, Packed, key_for};
-ghost use Rattle.uu_core.specs.declared.command.Command.{Command};
 ghost use Rattle.uu_core.specs.declared.command.Command.TheVariants.{QueueOnce};
-ghost use Rattle.uu_core.specs.declared.command.Reply.TheVariants.{Number};
-ghost use Rattle.uu_core.specs.declared.custody.Key.{Key};
 ghost use Rattle.uu_core.specs.declared.job.NewJob.{NewJob};
 ghost use Rattle.uu_core.specs.declared.due.Due.{Due};
 ghost use Rattle.uu_core.specs.Definitions.{definitions_of};
 ghost use Rattle.uu_core.specs.Due.{dues_of};
 ghost use Rattle.uu_core.specs.Marks.{marks_end};
 ghost use Rattle.uu_core.specs.State.{State, IsWellFormed};
-ghost use Rattle.uu_core.specs.After.{after};
 ghost use Rattle.uu_core.specs.Run.{state_after};
-ghost use Rattle.uu_core.specs.Laws.{accepted_of, lets_forget};
-ghost use Rattle.uu_line.specs.declared.task.Task.{Task};
 ghost use Rattle.uu_line.specs.declared.task.Task.TheVariants.{Load};
 ghost use Rattle.uu_report.specs.Reports.{due_text};
 ghost use Rattle.uu_settings.specs.declared.settings.Settings.{Settings};
-ghost use Rattle.uu_request.specs.Attempts.{regraded};
 ghost use Rattle.uu_request.specs.Carried.{bundle_crossing, said_of};
-ghost use Rattle.uu_request.specs.Requests.{load, one, task_request};
+ghost use Rattle.uu_request.specs.Requests.{load, task_request};
 ghost use Rattle.uu_request.specs.declared.request.Answering.{Answering};
 ghost use Rattle.uu_request.specs.declared.request.Packing.{Packing};
 ghost use Rattle.uu_request.specs.declared.request.Question.TheVariants as question;
@@ -36,7 +29,7 @@ ghost use Rattle.uu_store.specs.Runs.{Ran};
 ghost use Rattle.uu_store.specs.declared.spool.Spool.{Spool};
 ghost use Rattle.uuspool.specs.Answers.{IsAnswer};
 ghost use Rattle.uuspool.specs.Bundles.{is_had};
-ghost use Rattle.uuspool.specs.Served.{IsOutput, commands_of};
+ghost use Rattle.uuspool.specs.Served.{commands_of};
 ghost use Rattle.uuspool.specs.ServedLines.{AreServed, IsOneRun, ServedLine};
 
 use sqlite::Alter;
@@ -44,7 +37,6 @@ use uu_bundle::laws::{pieces_make_a_bundle, pieces_make_an_answer};
 use uu_core::laws::{definitions_are_read_back, the_first_to_go_is_due};
 use uu_handover::laws::bundles_say_what_may_be_said;
 use uu_questions::laws::jobs_are_listed_in_order;
-use uu_request::laws::attempts_are_answered_again;
 use uu_store::laws::runs_are_one_run;
 
 /// Lines that are served one after the other over one spool are one run of the commands of their
@@ -56,22 +48,6 @@ pub fn lines_are_one_run<S: Alter>()
     ensures none { (spool : Spool S S.Store) → Ran 1 [] spool spool [] None }
 {
     runs_are_one_run::<S>();
-}
-
-/// If the same user hands in a neighbour's job again with the same words and input, the output and
-/// the status are those of the first time. The grade, the settings and the moment may differ by
-/// then. This holds after any run in which no accepted command lets the neighbour's job be
-/// forgotten.
-pub fn attempts_are_told_the_same()
-    ensures { (before now : Settings) (first again : Moment) (input user : List ℕ) (task : Task) (grade : ℕ) (key key_again : Key) (job job_again : NewJob) (state : State) (number : ℕ) (commands : List Command) (output : List ℕ) (status : ℕ)
-        → task_request before first input user task ≡ Ok (one (QueueOnce key job))
-        → task_request now again input user (regraded grade task) ≡ Ok (one (QueueOnce key_again job_again))
-        → (after state (QueueOnce key job)).1 ≡ Number number
-        → All (λ command. lets_forget command key ≡ false) (accepted_of (after state (QueueOnce key job)).0 commands)
-        → IsOutput now (state_after (after state (QueueOnce key job)).0 commands) (one (QueueOnce key_again job_again)) output status
-        → IsOutput before state (one (QueueOnce key job)) output status }
-{
-    attempts_are_answered_again();
 }
 
 /// `due -s` prints all jobs of a system that may go. The first is the one that `due` prints for the

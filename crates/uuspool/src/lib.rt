@@ -16,13 +16,15 @@ mod line;
 mod moment;
 mod print;
 mod report;
+mod routing;
 mod serving;
 mod settling;
 
+pub use answer::name_text;
 pub use batch_call::batch_settings;
 pub use batching::{Clock, batch};
 pub use fault::{Fault, FaultLine, fault_line, fault_status};
-pub use input::{READ_LIMIT, read_input};
+pub use input::{READ_LIMIT, read_at_most, read_input};
 pub use line::line_of;
 pub use moment::moment_of;
 pub use report::{

@@ -1,5 +1,5 @@
 -- From the calls over a spool to a stretch of work over its files.
-use Rattle.std.proofs.Common.{◌≡◌, ◌⊎◌, ℕ, List, [], length, Option, None, Result, Ok, Err, inl, inr, refl, subst, sym}
+use Rattle.std.proofs.Common.{◌≡◌, ◌⊎◌, ◌++◌, ◌∙◌, ℕ, List, [], length, Option, None, Result, Ok, Err, inl, inr, refl, subst, sym}
 use Rattle.std.specs.Prelude.{IsTrue, IfOk, IfErr, ⊤, unwrap_or}
 use Rattle.sqlite_disk.specs.declared.Disk as disk
 use Rattle.sqlite_disk.specs.declared.Files.{Files}
@@ -29,55 +29,56 @@ use Rattle.uuspool.specs.Served.{WordsAsk, EndsAs, IsFaultOf, IsFaultOfLine, IsM
 use Rattle.uuspool.specs.ServedLines.{ServedLine}
 use Rattle.uuspool.specs.declared.fault.Fault.{Fault}
 use Rattle.uuspool.specs.declared.fault.Fault.TheVariants as fault
-use Rattle.uuspool_main.specs.Stretch.{EndsBatch, EndsStretch, IsOfLine, IsOfRequest, IsOfWords, LetsGo, WasGiven}
+use Rattle.uuspool_main.specs.declared.stretch.Invocation.{Invocation}
+use Rattle.uuspool_main.specs.Stretch.{EndsBatch, EndsStretch, HasMoment, IsOfLine, IsOfRequest, IsOfWords, LetsGo, WasGiven}
 use Rattle.uuspool_main.specs.declared.stretch.Rest.{Rest}
 use Rattle.uuspool_main.specs.declared.stretch.Rest.TheVariants as rest
 
 -- ---- what a line was given
 
-module _ {S : Type 0} {g : Ghosts S} (settings : Settings) (begun ended : Spool S g) where
+module _ {S : Type 0} {g : Ghosts S} (settings : Settings) (begun ended : Spool S g) (answer : List ℕ) where
   -- a request was served
   abbrev pub Asked : (Request → Type 0) → Result ℕ Fault → Type 0
-  Asked Is r = (request : Request) × Is request × IsServed settings request begun ended (λ output. ⊤) r
+  Asked Is r = (request : Request) × Is request × IsServed settings request begun ended (λ output. answer ≡ output) r
 
   -- and these are its commands and their replies
   abbrev pub AskedSo : (Request → Type 0) → Result ℕ Fault → Exchange → Type 0
   AskedSo Is r exchange = (request : Request) × Is request
-      × (it : IsServed settings request begun ended (λ output. ⊤) r) × (exchange ≡ exchange_of (in_hand request) it.commands it.replies it.stopped)
+      × (it : IsServed settings request begun ended (λ output. answer ≡ output) r) × (exchange ≡ exchange_of (in_hand request) it.commands it.replies it.stopped)
 
   -- nothing was done
   abbrev pub NoneSo : Exchange → Type 0
-  NoneSo exchange = (ended ≡ begun) × (exchange ≡ exchange_of 1 [] [] None)
+  NoneSo exchange = (ended ≡ begun) × (answer ≡ []) × (exchange ≡ exchange_of 1 [] [] None)
 
   asked_so : (Is : Request → Type 0) (r : Result ℕ Fault) → Asked Is r → WasGiven begun ended (AskedSo Is r)
   asked_so Is r (request, is, it) = (in_hand request, it.commands, it.replies, it.stopped, it.ran, (request, is, it, refl))
 
-  none_so : Ran 1 [] begun begun [] None → ended ≡ begun → WasGiven begun ended NoneSo
-  none_so none same = (1, [], [], None, subst (λ (new : Spool S g). Ran 1 [] begun new [] None) (sym same) none, (same, refl))
+  none_so : Ran 1 [] begun begun [] None → ended ≡ begun → answer ≡ [] → WasGiven begun ended NoneSo
+  none_so none same empty = (1, [], [], None, subst (λ (new : Spool S g). Ran 1 [] begun new [] None) (sym same) none, (same, empty, refl))
 
   -- however it ended
-  pub line_given : (Is : Request → Type 0) (Still : Type 0) → Ran 1 [] begun begun [] None → (r : Result ℕ Fault) → EndsAs r (Asked Is r) ((ended ≡ begun) × Still)
-      → WasGiven begun ended (IsOfRequest settings begun ended Is r)
-  line_given Is Still none (Ok status) it = asked_so Is (Ok status) it
-  line_given Is Still none (Err (fault.Store why)) it = asked_so Is (Err (fault.Store why)) it
-  line_given Is Still none (Err fault.Write) it = asked_so Is (Err fault.Write) it
-  line_given Is Still none (Err fault.Memory) it =
+  pub line_given : (Is : Request → Type 0) → Ran 1 [] begun begun [] None → (r : Result ℕ Fault) → EndsAs r (Asked Is r) ((ended ≡ begun) × (answer ≡ []))
+      → WasGiven begun ended (IsOfRequest settings begun ended Is r answer)
+  line_given Is none (Ok status) it = asked_so Is (Ok status) it
+  line_given Is none (Err (fault.Store why)) it = asked_so Is (Err (fault.Store why)) it
+  line_given Is none (Err fault.Write) it = asked_so Is (Err fault.Write) it
+  line_given Is none (Err fault.Memory) it =
       elim it [
         | inl done ↦ let (hand, commands, replies, stopped, ran, is) = asked_so Is (Err fault.Memory) done in (hand, commands, replies, stopped, ran, inl is)
-        | inr not_done ↦ let (hand, commands, replies, stopped, ran, is) = none_so none not_done.0 in (hand, commands, replies, stopped, ran, inr is)
+        | inr not_done ↦ let (hand, commands, replies, stopped, ran, is) = none_so none not_done.0 not_done.1 in (hand, commands, replies, stopped, ran, inr is)
       ]
-  line_given Is Still none (Err (fault.Words text help)) it = none_so none it.0
-  line_given Is Still none (Err (fault.Settings why)) it = none_so none it.0
-  line_given Is Still none (Err (fault.Name why)) it = none_so none it.0
-  line_given Is Still none (Err (fault.Time why)) it = none_so none it.0
-  line_given Is Still none (Err fault.TwoSystems) it = none_so none it.0
-  line_given Is Still none (Err fault.Input) it = none_so none it.0
-  line_given Is Still none (Err fault.Read) it = none_so none it.0
-  line_given Is Still none (Err (fault.Bundle why)) it = none_so none it.0
+  line_given Is none (Err (fault.Words text help)) it = none_so none it.0 it.1
+  line_given Is none (Err (fault.Settings why)) it = none_so none it.0 it.1
+  line_given Is none (Err (fault.Name why)) it = none_so none it.0 it.1
+  line_given Is none (Err (fault.Time why)) it = none_so none it.0 it.1
+  line_given Is none (Err fault.TwoSystems) it = none_so none it.0 it.1
+  line_given Is none (Err fault.Input) it = none_so none it.0 it.1
+  line_given Is none (Err fault.Read) it = none_so none it.0 it.1
+  line_given Is none (Err (fault.Bundle why)) it = none_so none it.0 it.1
 
   -- a request that is of a line is of other words too
   request_as : (Is Other : Request → Type 0) → ((request : Request) → Is request → Other request) → (r : Result ℕ Fault) (exchange : Exchange)
-      → IsOfRequest settings begun ended Is r exchange → IsOfRequest settings begun ended Other r exchange
+      → IsOfRequest settings begun ended Is r answer exchange → IsOfRequest settings begun ended Other r answer exchange
   request_as Is Other into (Ok status) exchange (request, is, served, same) = (request, into request is, served, same)
   request_as Is Other into (Err (fault.Store why)) exchange (request, is, served, same) = (request, into request is, served, same)
   request_as Is Other into (Err fault.Write) exchange (request, is, served, same) = (request, into request is, served, same)
@@ -112,9 +113,9 @@ module _ {S : Type 0} {g : Ghosts S} (settings : Settings) (begun ended : Spool 
       words_fault (Err (fault.Bundle why)) is = words_ask (Err (asking.Bundle why)) is
 
     -- what is said about a line holds of the words that mean it
-    pub of_words : (r : Result ℕ Fault) (exchange : Exchange) → IsOfLine settings begun ended line at input r exchange
+    pub of_words : (r : Result ℕ Fault) (exchange : Exchange) → IsOfLine settings begun ended line at input r answer exchange
         → (words : List (List ℕ)) (now : ℕ) → MeansLine words line → IsMomentOf settings (second_of line now) at
-        → IsOfWords settings begun ended words now input r exchange
+        → IsOfWords settings begun ended words now input r answer exchange
     of_words r exchange (done, told) words now means moment = (
       request_as (λ request. LineAsks settings at input line (Ok request)) (λ request. WordsAsk settings words now input (Ok request))
           (λ request is. words_ask words now means moment (Ok request) is) r exchange done,
@@ -176,3 +177,38 @@ pub ends : {D : Type 0} {g : disk.Ghosts D} (before : Image) (exchange : Exchang
 ends before exchange ended of_store of_files (rest.Store it) gone = of_store it gone.0 gone.1
 ends before exchange ended of_store of_files (rest.Closed files) gone = of_files files gone
 ends before exchange ended of_store of_files (rest.Unclosed it) gone = λ numbered. of_store it gone (λ _. numbered)
+
+-- ---- an answer in memory
+
+ends_as : {A B C E : Type 0} (r : Result ℕ Fault) → (A → B) → (C → E) → EndsAs r A C → EndsAs r B E
+ends_as (Ok status) served unchanged it = served it
+ends_as (Err (fault.Store why)) served unchanged it = served it
+ends_as (Err fault.Write) served unchanged it = served it
+ends_as (Err fault.Memory) served unchanged it = elim it [ inl done ↦ inl (served done) | inr not_done ↦ inr (unchanged not_done) ]
+ends_as (Err (fault.Words text help)) served unchanged it = unchanged it
+ends_as (Err (fault.Settings why)) served unchanged it = unchanged it
+ends_as (Err (fault.Name why)) served unchanged it = unchanged it
+ends_as (Err (fault.Time why)) served unchanged it = unchanged it
+ends_as (Err fault.TwoSystems) served unchanged it = unchanged it
+ends_as (Err fault.Input) served unchanged it = unchanged it
+ends_as (Err fault.Read) served unchanged it = unchanged it
+ends_as (Err (fault.Bundle why)) served unchanged it = unchanged it
+
+-- what was written to no bytes is all of the answer
+pub in_memory : {S : Type 0} {g : Ghosts S} (settings : Settings) (begun ended : Spool S g) (Is : Request → Type 0) (old answer : List ℕ) (Still : Type 0)
+    → old ≡ [] → (Still → answer ≡ old) → (r : Result ℕ Fault)
+    → EndsAs r ((request : Request) × Is request × IsServed settings request begun ended (λ output. answer ≡ old ++ output) r) ((ended ≡ begun) × Still)
+    → EndsAs r ((request : Request) × Is request × IsServed settings request begun ended (λ output. answer ≡ output) r) ((ended ≡ begun) × (answer ≡ []))
+in_memory settings begun ended Is old answer Still empty still r it =
+    ends_as r
+    (λ done. (done.0, done.1, subst (λ xs. IsServed settings done.0 begun ended (λ output. answer ≡ xs ++ output) r) empty done.2))
+    (λ not_done. (not_done.0, still not_done.1 ∙ empty)) it
+
+-- what is given back has the moment that it had
+pub moment_stays : (settings : Settings) (what again : Invocation) → HasMoment settings what → again ≡ what → HasMoment settings again
+moment_stays settings what again has same = subst (HasMoment settings) (sym same) has
+
+-- a line with the same second has the same moments
+pub moment_kept : (settings : Settings) (line other : CommandLine) (at : Moment) → other.at ≡ line.at → (now : ℕ) × IsMomentOf settings (second_of line now) at
+    → (now : ℕ) × IsMomentOf settings (second_of other now) at
+moment_kept settings line other at same is = (is.0, subst (λ (second : Option ℕ). IsMomentOf settings (unwrap_or second is.0) at) (sym same) is.1)

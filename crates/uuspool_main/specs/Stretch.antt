@@ -79,23 +79,24 @@ EndsBatch lines (Err fault.Read) = length lines ≡ most_requests
 EndsBatch lines (Err _) = ⊥
 
 module _ {S : Type 0} {g : Ghosts S} (settings : Settings) (begun ended : Spool S g) where
-  -- Such a request was served, and these are its commands and their replies, or nothing was done.
-  -- (What a terminal or a pipe got is not known.)
-  abbrev pub IsOfRequest : (Request → Type 0) → Result ℕ Fault → Exchange → Type 0
-  IsOfRequest Is result exchange = EndsAs result
+  -- Such a request was served with this answer, and these are its commands and their replies, or
+  -- nothing was done and the answer is empty. (That the answer is what was printed then is
+  -- reviewed.)
+  abbrev pub IsOfRequest : (Request → Type 0) → Result ℕ Fault → List ℕ → Exchange → Type 0
+  IsOfRequest Is result answer exchange = EndsAs result
       ((request : Request) × Is request
-      × (it : IsServed settings request begun ended (λ output. ⊤) result) × (exchange ≡ exchange_of (in_hand request) it.commands it.replies it.stopped))
-      ((ended ≡ begun) × (exchange ≡ exchange_of 1 [] [] None))
+      × (it : IsServed settings request begun ended (λ output. answer ≡ output) result) × (exchange ≡ exchange_of (in_hand request) it.commands it.replies it.stopped))
+      ((ended ≡ begun) × (answer ≡ []) × (exchange ≡ exchange_of 1 [] [] None))
 
   -- the request is the line's at this moment, and a fault is one of the line
-  abbrev pub IsOfLine : CommandLine → Moment → List ℕ → Result ℕ Fault → Exchange → Type 0
-  IsOfLine line at input result exchange =
-      IsOfRequest (λ request. LineAsks settings at input line (Ok request)) result exchange × IfErr result (IsFaultOfLine settings line at input)
+  abbrev pub IsOfLine : CommandLine → Moment → List ℕ → Result ℕ Fault → List ℕ → Exchange → Type 0
+  IsOfLine line at input result answer exchange =
+      IsOfRequest (λ request. LineAsks settings at input line (Ok request)) result answer exchange × IfErr result (IsFaultOfLine settings line at input)
 
   -- the request is that of the words at this second, and a fault is one of the words
-  abbrev pub IsOfWords : List (List ℕ) → ℕ → List ℕ → Result ℕ Fault → Exchange → Type 0
-  IsOfWords words now input result exchange =
-      IsOfRequest (λ request. WordsAsk settings words now input (Ok request)) result exchange × IfErr result (IsFaultOf settings words now input)
+  abbrev pub IsOfWords : List (List ℕ) → ℕ → List ℕ → Result ℕ Fault → List ℕ → Exchange → Type 0
+  IsOfWords words now input result answer exchange =
+      IsOfRequest (λ request. WordsAsk settings words now input (Ok request)) result answer exchange × IfErr result (IsFaultOf settings words now input)
 
   -- Lines of requests were served, and these are the commands of their requests and the replies.
   -- (Only `batch` says that they are those of standard input, and that the stream was at its end or
@@ -108,11 +109,11 @@ module _ {S : Type 0} {g : Ghosts S} (settings : Settings) (begun ended : Spool 
 
   -- What the program was invoked for was done, and these are the commands and the replies of its
   -- line or lines. What is said about the line holds of all words that mean it at its moment.
-  abbrev pub IsOfInvocation : Invocation → Result ℕ Fault → Exchange → Type 0
-  IsOfInvocation (invocation.Line line at input) result exchange =
-      IsOfLine line at input.items result exchange
-      × ((words : List (List ℕ)) (now : ℕ) → MeansLine words line → IsMomentOf settings (second_of line now) at → IsOfWords words now input.items result exchange)
-  IsOfInvocation invocation.Requests result exchange = IsOfLines result exchange
+  abbrev pub IsOfInvocation : Invocation → Result ℕ Fault → List ℕ → Exchange → Type 0
+  IsOfInvocation (invocation.Line line at input) result answer exchange =
+      IsOfLine line at input.items result answer exchange
+      × ((words : List (List ℕ)) (now : ℕ) → MeansLine words line → IsMomentOf settings (second_of line now) at → IsOfWords words now input.items result answer exchange)
+  IsOfInvocation invocation.Requests result answer exchange = IsOfLines result exchange
 
 -- on a clean disk the spool shows the state that the files kept
 abbrev pub ShowsKept : {S : Type 0} {g : Ghosts S} → Image → Spool S g → Type 0
@@ -120,14 +121,15 @@ ShowsKept before spool = HasCleanDisk (disk spool) → (s : State) → ImageKeep
 
 -- A run over files that held this. A spool was started over them, and showed the state that they
 -- kept. What the program was invoked for was done over it, and it was let go. That is a stretch of
--- work, with the commands and the replies of this invocation.
-pub record IsRun {D : Type 0} {g : device.Ghosts D} (settings : Settings) (what : Invocation) (before : Image) (result : Result ℕ Fault) (left : Rest D g) : Type 0 where
+-- work, with the commands and the replies of this invocation. A line has this answer. (A batch
+-- prints its own.)
+pub record IsRun {D : Type 0} {g : device.Ghosts D} (settings : Settings) (what : Invocation) (before : Image) (result : Result ℕ Fault) (answer : List ℕ) (left : Rest D g) : Type 0 where
   pub begun : Spool (FileStore D g) over_files
   pub ended : Spool (FileStore D g) over_files
   pub exchange : Exchange
   pub started : Started before begun
   pub shows : ShowsKept before begun
-  pub done : IsOfInvocation settings begun ended what result exchange
+  pub done : IsOfInvocation settings begun ended what result answer exchange
   pub gone : LetsGo ended left
   pub stretch : EndsStretch before exchange left
 
@@ -135,8 +137,8 @@ pub record IsRun {D : Type 0} {g : device.Ghosts D} (settings : Settings) (what 
 -- after the commands of their exchanges that count. Each job whose number was answered is there or
 -- was removed, and no other job has its number. If the number was the answer to a key, this is the
 -- job that was first handed in under the key, or one that was there before them all.
-pub record IsRunAfter {D : Type 0} {g : device.Ghosts D} (s : State) (told : List Exchange) (settings : Settings) (what : Invocation) (before : Image) (result : Result ℕ Fault) (left : Rest D g) : Type 0 where
-  pub run : IsRun settings what before result left
+pub record IsRunAfter {D : Type 0} {g : device.Ghosts D} (s : State) (told : List Exchange) (settings : Settings) (what : Invocation) (before : Image) (result : Result ℕ Fault) (answer : List ℕ) (left : Rest D g) : Type 0 where
+  pub run : IsRun settings what before result answer left
   pub commands : HasCleanDisk (disk run.begun) → ∥ ShowsAfter s told run.begun ∥₁
   pub jobs : HasCleanDisk (disk run.begun) → (new : NewJob) (number : ℕ) → IsAcknowledged told new number → ∥ ShowsJob s told new number run.begun ∥₁
   pub keys : HasCleanDisk (disk run.begun) → (key : Key) (new : NewJob) (number : ℕ) → IsAcknowledgedUnder told key new number → ∥ ShowsUnder s told key number run.begun ∥₁

@@ -19,7 +19,7 @@ struct SystemClock<'a> {
 
 impl Clock for SystemClock<'_> {
     fn second(&mut self) -> Option<u64> {
-        crate::second_of_clock(self.rt).ok()
+        crate::given::second_of_clock(self.rt).ok()
     }
 }
 

@@ -1,181 +1,155 @@
-//! The program `uuspool`: gets the words, the clock, the input and the spool from the system, and
-//! lets the library serve the line.
+//! The program `uuspool`: finds its site, takes its turn, lets the library serve the line over the
+//! spool, and then prints the answer.
 #![tactic(auto)]
 
 mod batching;
+mod given;
+mod logged;
+mod making;
+mod misread;
+mod sealing;
+mod serving;
 mod stretch;
+mod telling;
+mod trouble;
 
-ghost use Rattle.std.specs.Prelude.{[], IfOk, unwrap_or};
-ghost use Rattle.uuspool.specs.Served.{IsMomentOf, second_of};
-ghost use Rattle.uuspool_main.specs.Stretch.{HasMoment};
-
-use crate::stretch::{Invocation, Rest, work_on_file};
-use sqlite::Wary;
-use sqlite_disk::Disk;
-use std::io::Write;
+use crate::given::{settings_in, settings_of, words_of};
+use crate::making::make_spool;
+use crate::misread::line_trouble;
+use crate::sealing::{sealing_for, take_seals};
+use crate::serving::{serve_batch, serve_words};
+use crate::telling::{tell_name, tell_site};
+use crate::trouble::{Trouble, print_trouble};
 use std::mem::drop;
 use std::process::ExitCode;
-use std::time::SystemTime;
-use std::{env, fs, io};
-use uu_store::laws::FileHistory;
-use uu_times::Moment;
-use uuspool::{
-    CommandLine, Fault, FaultLine, Settings, batch_settings, fault_status, line_of, moment_of,
-    read_input,
-};
-
-/// The most bytes of a log that a line leaves beside the spool's file. An opening reads the log
-/// whole.
-const LOG_LIMIT: u64 = 262_144;
+use std::{fs, io};
+use uu_site::{enter, find_site, settings_text};
+use uuspool::{CommandLine, Settings, Task, batch_settings, line_of};
 
 fn main(rt: HostRuntime) -> ExitCode {
     match run(&rt) {
         Ok(status) => ExitCode::from(status),
-        Err(fault) => {
-            print_fault(&rt, &fault);
-            ExitCode::from(fault_status(&fault))
+        Err(trouble) => {
+            print_trouble(&rt, &trouble);
+            ExitCode::from(trouble.status())
         }
     }
 }
 
 // Does what the words ask for.
-fn run(rt: &HostRuntime) -> Result<u8, Fault> {
+fn run(rt: &HostRuntime) -> Result<u8, Trouble> {
     let words = words_of(rt)?;
-    match batch_settings(&words) {
-        Some(path) => run_batch(rt, path),
-        None => run_line(rt, &words),
+    if batch_settings(&words).is_some() {
+        return run_batch(rt, config_before(&words));
+    }
+    if is_only(&words, "init") {
+        return run_init(rt, config_before(&words));
+    }
+    if is_only(&words, "site") {
+        return run_site(rt, config_before(&words));
+    }
+    run_line(rt, &words)
+}
+
+// Whether the words are `NAME` or `-c FILE NAME`.
+fn is_only(words: &[String], name: &str) -> bool {
+    match words {
+        [word] => word.as_str() == name,
+        [option, _, word] => option.as_str() == "-c" && word.as_str() == name,
+        _ => false,
     }
 }
 
-// Answers the requests on standard input, with the settings of this path.
-fn run_batch(rt: &HostRuntime, path: &str) -> Result<u8, Fault> {
-    let settings = settings_in(rt, path)?;
-    run_on_file(rt, &settings, Invocation::Requests)
+// The file of `-c` in words that are `NAME` or `-c FILE NAME`.
+fn config_before(words: &[String]) -> Option<&str> {
+    match words {
+        [_, file, _] => Some(file.as_str()),
+        _ => None,
+    }
 }
 
-// Serves the line that these words mean.
-fn run_line(rt: &HostRuntime, words: &[String]) -> Result<u8, Fault> {
-    let line = line_of(rt.alloc(), words)?;
-    match given_for(rt, &line) {
-        Ok(given) => {
-            let Given {
-                settings,
-                at,
-                input,
-            } = given;
-            run_on_file(rt, &settings, Invocation::Line { line, at, input })
-        }
-        Err(fault) => {
+// Answers the requests on standard input.
+fn run_batch(rt: &HostRuntime, config: Option<&str>) -> Result<u8, Trouble> {
+    let settings = enter_site(rt, config)?;
+    serve_batch(rt, &settings)
+}
+
+// Makes the spool.
+fn run_init(rt: &HostRuntime, config: Option<&str>) -> Result<u8, Trouble> {
+    let settings = enter_site(rt, config)?;
+    make_spool(rt, &settings)
+}
+
+// Prints what the site is. Who asks need not be able to enter its folder.
+fn run_site(rt: &HostRuntime, config: Option<&str>) -> Result<u8, Trouble> {
+    let site = find_site(rt, config)?;
+    let text = settings_text(rt, &site)?;
+    let settings = settings_in(rt, &site, text.as_str())?;
+    tell_site(rt, &site, &settings, text.as_str())
+}
+
+// Serves the line that these words mean. The name of the site needs no spool.
+fn run_line(rt: &HostRuntime, words: &[String]) -> Result<u8, Trouble> {
+    let line = match line_of(rt.alloc(), words) {
+        Ok(line) => line,
+        Err(fault) => return Err(line_trouble(rt, words, fault)),
+    };
+    if matches!(line.task, Task::Name) {
+        let config = line.config;
+        return run_name(rt, config_of(&config));
+    }
+    match enter_site(rt, config_of(&line.config)) {
+        Ok(settings) => serve_opened(rt, settings, words, line),
+        Err(trouble) => {
             drop(line);
-            Err(fault)
+            Err(trouble)
         }
     }
 }
 
-// The words after the program's name.
-fn words_of(rt: &HostRuntime) -> Result<Vec<String>, Fault> {
-    let words = match env::args(rt) {
-        Ok(args) => args.skip(1).collect(rt.alloc()),
-        Err(error) if error.kind() == io::ErrorKind::OutOfMemory => return Err(Fault::Memory),
-        Err(_) => return Err(Fault::Read),
-    };
-    words.map_err(Fault::from)
-}
-
-// What a line is given besides its words.
-#[derive(Drop)]
-struct Given {
+// Serves a line of these words, whose bundles are opened and sealed if its neighbour has keys.
+fn serve_opened(
+    rt: &HostRuntime,
     settings: Settings,
-    at: Moment,
-    input: Vec<u8>,
-}
-
-// What this line is given: the settings of its file, its moment on their clock, and its input.
-fn given_for(rt: &HostRuntime, line: &CommandLine) -> Result<Given, Fault>
-    ensures { IfOk result (λ given. (now : _) × IsMomentOf given.settings (second_of line.now now) given.at) }
-{
-    let settings = settings_in(rt, line.config.as_str())?;
-    let at = moment_for(rt, line.at, &settings)?;
-    let input = input_for(rt, line.task.has_input())?;
-    Ok(Given {
-        settings,
-        at,
-        input,
-    })
-}
-
-// The settings in the file of this path.
-fn settings_in(rt: &HostRuntime, path: &str) -> Result<Settings, Fault> {
-    let text = match fs::read_to_string(rt, path) {
-        Ok(text) => text,
-        Err(error) if error.kind() == io::ErrorKind::OutOfMemory => return Err(Fault::Memory),
-        Err(_) => return Err(Fault::Read),
-    };
-    match Settings::read(rt.alloc(), text.as_str()) {
-        Ok(settings) => Ok(settings),
-        Err(fault) => Err(Fault::Settings(fault)),
+    words: &[String],
+    line: CommandLine,
+) -> Result<u8, Trouble> {
+    let (settings, folder) = take_seals(settings);
+    match sealing_for(rt, &settings, &folder, &line.task) {
+        Ok(sealing) => serve_words(rt, &settings, &sealing, words, line),
+        Err(trouble) => {
+            drop(line);
+            Err(trouble)
+        }
     }
 }
 
-// The moment of the line's second, or of the clock's if the line gives none.
-fn moment_for(rt: &HostRuntime, second: Option<u64>, settings: &Settings) -> Result<Moment, Fault>
-    ensures { IfOk result (λ at. (now : _) × IsMomentOf settings.now (unwrap_or second now) at) }
-{
-    match second {
-        Some(second) => moment_of(second, settings),
-        None => match second_of_clock(rt) {
-            Ok(now) => moment_of(now, settings),
-            Err(fault) => Err(fault),
-        },
+// Prints the name of the site.
+fn run_name(rt: &HostRuntime, config: Option<&str>) -> Result<u8, Trouble> {
+    let site = find_site(rt, config)?;
+    let settings = settings_of(rt, &site)?;
+    tell_name(rt, &settings)
+}
+
+// The path of `-c`, if a line has one.
+fn config_of(config: &Option<String>) -> Option<&str> {
+    match config {
+        Some(path) => Some(path.as_str()),
+        None => None,
     }
 }
 
-fn second_of_clock(rt: &HostRuntime) -> Result<u64, Fault> {
-    let Ok(now) = SystemTime::now(rt) else {
-        return Err(Fault::Read);
-    };
-    match now.duration_since(SystemTime::UNIX_EPOCH) {
-        Ok(since) => Ok(since.as_secs()),
-        Err(_) => Err(Fault::Read),
-    }
+// The settings of the site. From then on relative paths start in its folder.
+fn enter_site(rt: &HostRuntime, config: Option<&str>) -> Result<Settings, Trouble> {
+    let site = find_site(rt, config)?;
+    let settings = settings_of(rt, &site)?;
+    enter(rt, &site)?;
+    Ok(settings)
 }
 
-// The input of the line, read whole, if the line takes one.
-fn input_for(rt: &HostRuntime, takes_input: bool) -> Result<Vec<u8>, Fault> {
-    if takes_input {
-        read_input(rt.alloc(), &mut rt.stdin())
-    } else {
-        Ok(Vec::new(rt.alloc()))
-    }
-}
-
-/// A history without stretches. Only clauses name it, and `work_on_file` is proved for any other
-/// (docs/trust.md).
-struct NoHistory;
-
-impl FileHistory for NoHistory {
-    ghost before = { record { log = []; db = [] } };
-
-    ghost stretches = { [] };
-}
-
-// Does the work over the spool's file that the settings name, by a function whose clauses speak of
-// all contents and of all that was done before. What is left of the files is dropped.
-fn run_on_file(rt: &HostRuntime, settings: &Settings, invocation: Invocation) -> Result<u8, Fault>
-    requires { HasMoment settings.now invocation }
-{
-    match work_on_file::<NoHistory, Wary>(rt, settings, invocation, Wary) {
-        Ok(worked) => end_of(worked),
-        Err(failed) => Err(Fault::Store(failed.fault)),
-    }
-}
-
-// How the work ended; the rest is dropped.
-fn end_of<D: Disk + Drop>(worked: (Result<u8, Fault>, Rest<D>)) -> Result<u8, Fault> {
-    let (end, rest) = worked;
-    drop(rest);
-    end
-}
+/// The most bytes of a log that a line leaves beside the spool's file. An opening reads the log
+/// whole.
+const LOG_LIMIT: u64 = 262_144;
 
 // Whether the log of the spool at this path is longer than `LOG_LIMIT`. If its length can't be
 // read, it counts as short.
@@ -192,15 +166,4 @@ fn log_length(rt: &HostRuntime, path: &str) -> io::Result<u64> {
     let name = file.as_str();
     let log = format!(in rt.alloc(); "{name}-wal")?;
     Ok(fs::metadata(rt, log.as_str())?.len())
-}
-
-// Prints a fault: help on standard output, any other on standard error. Its line allocates nothing.
-// If it can't be written, only the status reports the fault.
-fn print_fault(rt: &HostRuntime, fault: &Fault) {
-    let line = FaultLine(fault);
-    let _ = if fault.is_help() {
-        write!(rt.stdout(), "{line}")
-    } else {
-        write!(rt.stderr(), "{line}")
-    };
 }

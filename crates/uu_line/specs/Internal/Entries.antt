@@ -8,9 +8,12 @@ use Rattle.clap.specs.ValueTests.{is_unsigned_in}
 use Rattle.clap.specs.Words.{Row, Text, first_of}
 use Rattle.uu_line.specs.Lines.{texts_at}
 
--- the most that JOB and SECONDS may be
+-- the most that JOB, BYTES and SECONDS may be
 abbrev pub most_job : ℕ
 most_job = 4_294_967_295
+
+abbrev pub most_size : ℕ
+most_size = 4_294_967_295
 
 abbrev pub most_second : ℕ
 most_second = 9_999_999_999
@@ -44,6 +47,8 @@ subcommands =
     ∷ (codes "map", [])
     ∷ (codes "neighbours", codes "host" ∷ [])
     ∷ (codes "name", [])
+    ∷ (codes "route", codes "host" ∷ [])
+    ∷ (codes "routes", [])
     ∷ []
 
 -- the subcommand of a name
@@ -68,6 +73,7 @@ pub record IsEntered (name : Text) (rows : List Row) : Type 0 where
   pub known : IsSome (subcommand_named name)
   pub texts : HaveTexts (texts_of name) rows
   pub jobs : AreNumbersUpTo most_job (texts_at (codes "job") rows)
+  pub sizes : AreNumbersUpTo most_size (texts_at (codes "most") rows)
 
 -- a subcommand of the program was entered
 abbrev pub HasSubcommand : Option (Text × List Row) → Type 0
@@ -76,6 +82,6 @@ HasSubcommand (Some subcommand) = IsEntered subcommand.0 subcommand.1
 
 -- the entries of a line, with its subcommand
 pub record AreLineEntries (rows : List Row) (entered : Option (Text × List Row)) : Type 0 where
-  pub texts : HaveTexts (codes "config" ∷ codes "as" ∷ []) rows
+  pub texts : HaveTexts (codes "as" ∷ []) rows
   pub second : AreNumbersUpTo most_second (texts_at (codes "at") rows)
   pub subcommand : HasSubcommand entered

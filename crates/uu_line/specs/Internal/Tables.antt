@@ -16,6 +16,7 @@ rule_formed (form.Switch letter) id = record (new_rule id) { short = Some letter
 rule_formed (form.Name name) id = record (new_rule id) { long = Some name.now }
 rule_formed (form.Second name) id = record (new_rule id) { long = Some name.now; parser = Some (Unsigned 0 9_999_999_999) }
 rule_formed (form.After name) id = record (new_rule id) { long = Some name.now; parser = Some (Unsigned 0 4_294_967_295) }
+rule_formed (form.Most name) id = record (new_rule id) { long = Some name.now; parser = Some (Unsigned 1 4_294_967_295) }
 rule_formed (form.Flag name) id = record (new_rule id) { long = Some name.now; action = Some SetTrue }
 rule_formed form.One id = new_rule id
 rule_formed form.Job id = record (new_rule id) { parser = Some (Unsigned 0 4_294_967_295) }

@@ -13,7 +13,8 @@ returns c =
     let onward = texts_at (codes "system") rows in
     let grade = c.text_in-grade.result.now in
     let after = c.after_in-after.result in
-    meaning (MeansAnswer rows) c.answer_task.result (answer_task sender onward grade (first_of (codes "spool") rows) after (has_flag (codes "no-jobs") rows))
-    (sender, c.text_in-sender.ensures, (grade, c.text_in-grade.ensures, (after, c.after_in-after.ensures, refl)))
+    let most = c.most_in-most.result in
+    meaning (MeansAnswer rows) c.answer_task.result (answer_task sender onward grade (first_of (codes "spool") rows) after most (has_flag (codes "no-jobs") rows))
+    (sender, c.text_in-sender.ensures, (grade, c.text_in-grade.ensures, (after, c.after_in-after.ensures, most, c.most_in-most.ensures, refl)))
     (subst (AnswersUnlessMemory c.answer_task.result)
-    (ap₂ (λ spool no_jobs. answer_task sender onward grade spool after no_jobs) (c.get_str-spool.ensures ∙ first_value-rows found (codes "spool")) c.has_flag-no_jobs.ensures) c.answer_task.ensures)
+    (ap₂ (λ spool no_jobs. answer_task sender onward grade spool after most no_jobs) (c.get_str-spool.ensures ∙ first_value-rows found (codes "spool")) c.has_flag-no_jobs.ensures) c.answer_task.ensures)

@@ -30,7 +30,7 @@ returns-in-forget c =
     task_meant (MeansForget rows) (MeansTask c.args.name.now rows) c.forget_in.result (λ meant means. inr (inr (inr (inr (inr (inr (inr (inr (inr (inr (inr (inr (inr (inr (inr (inr (inr (inr (inl (c.in-forget.is, means)))))))))))))))))))) c.forget_in.ensures
 
 pub pack_in-requires : goal.pack_in-requires
-pack_in-requires c = record { texts = subst (λ name. HaveTexts (texts_of name) (rows_of (found_of c.args.given.now))) c.in-pack.is c.requires.entered.texts; number = c.requires.entered.jobs }
+pack_in-requires c = record { texts = subst (λ name. HaveTexts (texts_of name) (rows_of (found_of c.args.given.now))) c.in-pack.is c.requires.entered.texts; number = c.requires.entered.jobs; size = c.requires.entered.sizes }
 
 pub returns-in-pack : goal.returns-in-pack
 returns-in-pack c =
@@ -54,7 +54,7 @@ returns-in-settle c =
     task_meant (MeansSettle rows) (MeansTask c.args.name.now rows) c.settle_in.result (λ meant means. inr (inr (inr (inr (inr (inr (inr (inr (inr (inr (inr (inr (inr (inr (inr (inr (inr (inr (inr (inr (inr (inl (c.in-settle.is, means))))))))))))))))))))))) c.settle_in.ensures
 
 pub answer_in-requires : goal.answer_in-requires
-answer_in-requires c = record { texts = subst (λ name. HaveTexts (texts_of name) (rows_of (found_of c.args.given.now))) c.in-answer.is c.requires.entered.texts; number = c.requires.entered.jobs }
+answer_in-requires c = record { texts = subst (λ name. HaveTexts (texts_of name) (rows_of (found_of c.args.given.now))) c.in-answer.is c.requires.entered.texts; number = c.requires.entered.jobs; size = c.requires.entered.sizes }
 
 pub returns-in-answer : goal.returns-in-answer
 returns-in-answer c =

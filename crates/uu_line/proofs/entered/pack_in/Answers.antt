@@ -12,7 +12,8 @@ returns c =
     let system = c.text_in-system.result.now in
     let grade = c.text_in-grade.result.now in
     let after = c.after_in-after.result in
-    meaning (MeansPack rows) c.pack_task.result (pack_task system grade (first_of (codes "spool") rows) after (has_flag (codes "no-jobs") rows))
-    (system, c.text_in-system.ensures, (grade, c.text_in-grade.ensures, (after, c.after_in-after.ensures, refl)))
+    let most = c.most_in-most.result in
+    meaning (MeansPack rows) c.pack_task.result (pack_task system grade (first_of (codes "spool") rows) after most (has_flag (codes "no-jobs") rows))
+    (system, c.text_in-system.ensures, (grade, c.text_in-grade.ensures, (after, c.after_in-after.ensures, most, c.most_in-most.ensures, refl)))
     (subst (AnswersUnlessMemory c.pack_task.result)
-    (ap₂ (λ spool no_jobs. pack_task system grade spool after no_jobs) (c.get_str-spool.ensures ∙ first_value-rows found (codes "spool")) c.has_flag-no_jobs.ensures) c.pack_task.ensures)
+    (ap₂ (λ spool no_jobs. pack_task system grade spool after most no_jobs) (c.get_str-spool.ensures ∙ first_value-rows found (codes "spool")) c.has_flag-no_jobs.ensures) c.pack_task.ensures)

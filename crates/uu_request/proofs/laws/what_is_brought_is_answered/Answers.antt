@@ -8,8 +8,8 @@ use Rattle.uu_request.proofs.FrontLemmas.{IsFirst, first_read}
 use Rattle.uu_request.proofs.laws.what_is_brought_is_answered.Goals as goal
 
 pub returns : goal.returns
-returns c = λ whole front cut settings at user sender onward grade spool after no_jobs it is_whole is_front asks.
-    let asked = answers settings at front onward (packing sender grade spool after no_jobs) it asks.0 asks.1 asks.2 in
+returns c = λ whole front cut settings at user sender onward grade spool after most no_jobs it is_whole is_front asks.
+    let asked = answers settings at front onward (packing sender grade spool after most no_jobs) it asks.0 asks.1 asks.2 in
     let read : Bundle = asked.0 in
     let first : IsFirst whole read = first_read c.cut_bundles_are_fronts.ensures.front c.written_bundles_are_read.ensures c.a_text_has_one_bundle.ensures whole read front cut is_whole is_front asked.1 in
     let from : read.from ≡ whole.from = ap (λ heading. heading.from) first.heading in

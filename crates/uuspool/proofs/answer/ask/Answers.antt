@@ -72,3 +72,9 @@ pub returns-in-Answer : goal.returns-in-Answer
 returns-in-Answer g c =
     let written : List ℕ → Type 0 = λ output. Appends (g.W.Write.contents c.args.out.now) (g.W.Write.contents c.answer.new.out) output in
     subst (λ (q : Question). IsServed c.args.settings.now (request.Question q) c.args.spool.now c.answer.new.spool written c.answer.result) (sym c.in-Answer.is) c.answer.ensures
+
+pub returns-in-Routes : goal.returns-in-Routes
+returns-in-Routes g c =
+    let written : List ℕ → Type 0 = λ output. Appends (g.W.Write.contents c.args.out.now) (g.W.Write.contents c.routes.new.out) output in
+    let given = ap (λ name. question.Routes name c.in-Routes.costs) c.as_ref-in-Routes.ensures.value ∙ sym c.in-Routes.is in
+    subst (λ (q : Question). IsServed c.args.settings.now (request.Question q) c.args.spool.now c.routes.new.spool written c.routes.result) given c.routes.ensures

@@ -8,4 +8,4 @@ use Rattle.uuspool.proofs.bundles.add_jobs.Given as goal
 abbrev pub invariant-loop-number : goal.invariant-loop-number
 invariant-loop-number g l =
     (jobs : List Job) → l.fn.numbers ≡ map (λ (job : Job). job.number) jobs
-    → WasAsked (AreThere jobs) (Adds l.fn.own l.fn.packing l.fn.text.items jobs l.number-index l.text.items) l.fn.spool l.spool
+    → WasAsked (AreThere jobs) (Adds l.fn.own l.fn.packing l.fn.text.items jobs l.number-index l.room l.text.items) l.fn.spool l.spool

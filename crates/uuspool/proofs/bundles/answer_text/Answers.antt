@@ -1,9 +1,9 @@
 use Rattle.std.proofs.Common.{◌≡◌, ◌∙◌, ℕ, List, Vec, Err, Ok, subst}
 use Rattle.std.specs.Prelude.{⊤}
 use Rattle.std.specs.declared.alloc.Global.{Global}
-use Rattle.uu_bundle.specs.Bundles.{text_with_jobs}
+use Rattle.uu_bundle.specs.Bundles.{most_bundle, text_with_jobs}
 use Rattle.uu_core.specs.State.{Job, State, link_of}
-use Rattle.uuspool.specs.Bundles.{AreToGo, IsAnswerText, heading_for, parcels_for, refused_among, taken_among}
+use Rattle.uuspool.specs.Bundles.{AreToGo, IsAnswerText, heading_for, most_of, parcels_for, refused_among, taken_among}
 use Rattle.uuspool.specs.Internal.Asked.{ArePacked, AreThere, answer_front}
 use Rattle.uuspool.proofs.AskedLemmas.{asked_as, asked_goes_on, asked_refused_as, asked_then}
 use Rattle.uuspool.proofs.BundleLemmas.{Numbered, asked_for_numbered, text_made}
@@ -38,7 +38,7 @@ returns-in_err-add_jobs g c =
     let Begins : State → Vec ℕ Global → Type 0 = λ s text. text.items ≡ answer_front own it below s in
     let text = c.in_ok-text.text in
     let given = c.deref.result.now in
-    let More : List Job → Type 0 = λ jobs. c.add_jobs.new.text.items ≡ text_with_jobs text.items (parcels_for own it.packing jobs) in
+    let More : List Job → Type 0 = λ jobs. c.add_jobs.new.text.items ≡ text_with_jobs most_bundle (most_of it.packing) text.items (parcels_for own it.packing jobs) in
     let first = asked_then (λ s. ⊤) Packs c.args.spool.now c.waiting.new.spool c.begin_answering.new.spool (numbers, below) c.in_ok-numbers.ensures (λ s. ⊤) Begins (Ok text) (λ s shown known is. tt) c.in_ok-text.ensures in
     asked_goes_on (λ s. ⊤) (λ s done. (Packs s (numbers, below) × Begins s text) × ((it : Numbered given) → AreThere it.0 s → More it.0)) (λ s (text : Vec ℕ Global). IsAnswerText own it s text.items) c.args.spool.now c.add_jobs.new.spool
     c.from_residual-in_err-add_jobs.result c.in_err-add_jobs.field-0.0 c.from_residual-in_err-add_jobs.ensures.1
@@ -57,7 +57,7 @@ returns-in_err-end_bundle g c =
     let Begins : State → Vec ℕ Global → Type 0 = λ s text. text.items ≡ answer_front own it below s in
     let text = c.in_ok-text.text in
     let given = c.deref.result.now in
-    let More : List Job → Type 0 = λ jobs. c.add_jobs.new.text.items ≡ text_with_jobs text.items (parcels_for own it.packing jobs) in
+    let More : List Job → Type 0 = λ jobs. c.add_jobs.new.text.items ≡ text_with_jobs most_bundle (most_of it.packing) text.items (parcels_for own it.packing jobs) in
     let first = asked_then (λ s. ⊤) Packs c.args.spool.now c.waiting.new.spool c.begin_answering.new.spool (numbers, below) c.in_ok-numbers.ensures (λ s. ⊤) Begins (Ok text) (λ s shown known is. tt) c.in_ok-text.ensures in
     asked_refused_as (λ s. ⊤) (λ s done. (Packs s (numbers, below) × Begins s text) × ((it : Numbered given) → AreThere it.0 s → More it.0)) (λ s (text : Vec ℕ Global). IsAnswerText own it s text.items) c.args.spool.now c.add_jobs.new.spool
     c.from_residual-in_err-end_bundle.result _ c.from_residual-in_err-end_bundle.ensures.1
@@ -76,7 +76,7 @@ returns g c =
     let Begins : State → Vec ℕ Global → Type 0 = λ s text. text.items ≡ answer_front own it below s in
     let text = c.in_ok-text.text in
     let given = c.deref.result.now in
-    let More : List Job → Type 0 = λ jobs. c.add_jobs.new.text.items ≡ text_with_jobs text.items (parcels_for own it.packing jobs) in
+    let More : List Job → Type 0 = λ jobs. c.add_jobs.new.text.items ≡ text_with_jobs most_bundle (most_of it.packing) text.items (parcels_for own it.packing jobs) in
     let first = asked_then (λ s. ⊤) Packs c.args.spool.now c.waiting.new.spool c.begin_answering.new.spool (numbers, below) c.in_ok-numbers.ensures (λ s. ⊤) Begins (Ok text) (λ s shown known is. tt) c.in_ok-text.ensures in
     asked_as (λ s. ⊤) (λ s done. (Packs s (numbers, below) × Begins s text) × ((it : Numbered given) → AreThere it.0 s → More it.0)) c.args.spool.now c.add_jobs.new.spool (λ s (text : Vec ℕ Global). IsAnswerText own it s text.items) _ _
     (λ s shown known was.
@@ -85,7 +85,7 @@ returns g c =
       jobs = packs.jobs;
       are = subst (λ lowest. AreToGo it.packing lowest s packs.jobs) c.higher-lowest.ensures packs.are;
       is = text_made own it.packing c.higher-lowest.result s numbers.items given below text.items c.add_jobs.new.text.items _ (λ b. answer_front own it b s) packs c.deref.ensures.value was.0.1 was.1 c.in_ok-end_bundle.ensures
-          ∙ c.pieces_make_an_answer.ensures.text (heading_for own it.packing s) (taken_among it.commands (link_of s it.packing.system).taken) (refused_among it.commands s) (parcels_for own it.packing packs.jobs);
+          ∙ c.pieces_make_an_answer.ensures.text (most_of it.packing) (heading_for own it.packing s) (taken_among it.commands (link_of s it.packing.system).taken) (refused_among it.commands s) (parcels_for own it.packing packs.jobs);
     })
     (asked_then (λ s. ⊤) (λ s (t : Vec ℕ Global). Packs s (numbers, below) × Begins s t) c.args.spool.now c.begin_answering.new.spool c.add_jobs.new.spool text first
     (λ s. (it : Numbered given) × AreThere it.0 s) (λ s done. (it : Numbered given) → AreThere it.0 s → More it.0) _

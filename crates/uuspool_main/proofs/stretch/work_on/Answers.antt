@@ -4,8 +4,8 @@ use Rattle.uuspool_main.proofs.stretch.work_on.Goals as goal
 
 pub returns : goal.returns
 returns g c before started shows =
-    let (hand, commands, replies, stopped, ran, is) = c.do_work-end.ensures in
-    let ended = c.do_work-end.new.spool in
+    let (hand, commands, replies, stopped, ran, is) = c.do_work-answer.ensures in
+    let ended = c.do_work-answer.new.spool in
     let make = c.calls_make_a_stretch.ensures in
     record {
       begun = c.args.spool;

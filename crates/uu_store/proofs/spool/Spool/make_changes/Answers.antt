@@ -1,8 +1,5 @@
-use Rattle.std.proofs.Common.{◌≡◌, false, Ok, Err, sym, subst}
+use Rattle.std.proofs.Common.{false, Ok, Err, sym, subst}
 use Rattle.sqlite.specs.Held.{state}
-use Rattle.uu_core.specs.State.{State, IsWellFormed}
-use Rattle.uu_tables.specs.Tables.{tables_of}
-use Rattle.uu_tables.specs.Changes.{applied}
 use Rattle.uu_schema.specs.Steps.{StaysUnclean}
 use Rattle.uu_statements.specs.Step.{IsToldStep}
 use Rattle.uu_store.specs.Spool.{disk, failure_of, has_failed, IsFaultBetween, Notes}

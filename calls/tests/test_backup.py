@@ -1,0 +1,184 @@
+"""Copies of folders, the turn, and which copies stay."""
+import fcntl
+import os
+import pwd
+import resource
+import time
+
+from uuspool_calls import backup, copies, turn
+from uuspool_calls.errors import Failure
+
+from .standins import Folder
+
+
+class Copies(Folder):
+    def copied(self, path: str, *, owners: tuple[int, ...] = (), most: int = 1000) -> tuple[list[str], list[str]]:
+        """What a copy of a folder has, and what isn't copied."""
+        target = copies.Target(f"{self.folder}/copy")
+        with copies.Copier(owners) as copier:
+            copier._most = most
+            copier.take(f"{self.folder}/{path}", target)
+            copier.finish()
+            left = [it.removeprefix(f"{self.folder}/") for it in copier.left_out]
+        target.sync()
+        target.close()
+        return sorted(os.path.relpath(f"{at}/{name}", f"{self.folder}/copy") for at, _, names in os.walk(f"{self.folder}/copy") for name in names), left
+
+    def test_files_of_one_moment(self) -> None:
+        self.put("s/a", "before", 0o640)
+        self.put("s/b/c", "c")
+        os.utime(f"{self.folder}/s/a", (1000, 1000))
+        target = copies.Target(f"{self.folder}/copy")
+        with copies.Copier() as copier:
+            copier.take(f"{self.folder}/s", target)
+            os.rename(self.put("s/new", "after"), f"{self.folder}/s/a")
+            os.remove(f"{self.folder}/s/b/c")
+            copier.finish()
+        target.close()
+        self.assertEqual((b"before", b"c"), (self.bytes_of("copy/a"), self.bytes_of("copy/b/c")))
+        seen = os.stat(f"{self.folder}/copy/a")
+        self.assertEqual((0o640, 1000), (seen.st_mode & 0o777, int(seen.st_mtime)))
+
+    def test_modes_and_owners(self) -> None:
+        self.put("s/b/c", "c")
+        os.chmod(f"{self.folder}/s", 0o750)
+        os.chmod(f"{self.folder}/s/b", 0o500)
+        for path in "s/b", "s/b/c":
+            self.give(f"{self.folder}/{path}")
+        self.copied("s")
+        found = [os.stat(f"{self.folder}/copy/{path}") for path in (".", "b", "b/c")]
+        self.assertEqual([(0o750, 0), (0o500, 1), (0o644, 1)], [(it.st_mode & 0o777, it.st_uid) for it in found])
+
+    def test_more_files_than_may_be_open(self) -> None:
+        for number in range(20):
+            self.put(f"s/{number}", str(number))
+        self.assertEqual((sorted(map(str, range(20))), []), self.copied("s", most=12))
+        self.assertEqual([str(number).encode() for number in range(20)], [self.bytes_of(f"copy/{number}") for number in range(20)])
+
+    def test_no_link_is_followed(self) -> None:
+        self.put("secret", "kept")
+        self.put("s/a", "a")
+        os.symlink(f"{self.folder}/secret", f"{self.folder}/s/link")
+        os.symlink(self.folder, f"{self.folder}/s/folder")
+        os.link(f"{self.folder}/secret", f"{self.folder}/s/hard")
+        os.mkfifo(f"{self.folder}/s/fifo")
+        self.assertEqual((["a", "link"], ["s/fifo: is no regular file with one name", "s/hard: is no regular file with one name"]), self.copied("s"))
+        self.assertEqual((True, self.folder), (os.path.islink(f"{self.folder}/copy/link"), os.readlink(f"{self.folder}/copy/folder")))
+        os.symlink(f"{self.folder}/s", f"{self.folder}/t")
+        with copies.Copier() as copier:
+            copier.take(f"{self.folder}/t", copies.Target(f"{self.folder}/other"))
+            self.assertEqual((f"{self.folder}/t: Not a directory", []), (copier.left_out[0], os.listdir(f"{self.folder}/other")))
+
+    def test_files_of_another_user(self) -> None:
+        self.put("s/a", "a")
+        self.give(self.put("s/b", "b"))
+        self.assertEqual((["a"], ["s/b: belongs to user 1"]), self.copied("s", owners=(0,)))
+
+    def test_no_file_is_overwritten(self) -> None:
+        os.symlink(self.put("victim", "kept"), f"{self.folder}/link")
+        target, source = copies.Target(f"{self.folder}/copy"), os.open(self.put("a", "a"), os.O_RDONLY)
+        os.symlink(f"{self.folder}/victim", f"{self.folder}/copy/a")
+        with self.assertRaises(FileExistsError):
+            target.put("a", source)
+        with self.assertRaises(FileExistsError):
+            copies.Target(f"{self.folder}/link")
+        os.close(source)
+        target.close()
+        self.assertEqual(b"kept", self.bytes_of("victim"))
+
+    def test_limits_of_open_files(self) -> None:
+        before = resource.getrlimit(resource.RLIMIT_NOFILE)
+        try:
+            resource.setrlimit(resource.RLIMIT_NOFILE, (200, before[1]))
+            with copies.Copier() as copier:
+                self.assertEqual(before[1] - 64, copier._most)
+        finally:
+            resource.setrlimit(resource.RLIMIT_NOFILE, before)
+
+
+class Turns(Folder):
+    def test_who_has_it(self) -> None:
+        path = f"{self.folder}/spool.db"
+        with turn.Turn(path, 1) as first:
+            first.wait_for_it(time.sleep)
+            self.assertEqual((b"%10d\n" % os.getpid(), 0o600), (self.bytes_of("spool.db-lock"), os.stat(f"{path}-lock").st_mode & 0o777))
+            with turn.Turn(path, 0) as second, self.assertRaisesRegex(Failure, f"no turn within 0 seconds: process {os.getpid()} has {path}-lock"):
+                second.wait_for_it(time.sleep)
+        with turn.Turn(path, 0) as third:
+            third.wait_for_it(time.sleep)
+
+    def test_another_users_folder_keeps_its_lock(self) -> None:
+        self.give(self.folder)
+        with turn.Turn(f"{self.folder}/spool.db", 0, pwd.getpwuid(1).pw_name):
+            self.assertEqual((1, 1), os.stat(f"{self.folder}/spool.db-lock")[4:6])
+
+    def test_a_folder_of_roots_gets_no_lock_of_another_user(self) -> None:
+        self.put("spool.db", "x", 0o600)
+        os.chmod(self.folder, 0o755)
+        if os.geteuid():
+            self.skipTest("only root acts as another user")
+        with self.assertRaises(PermissionError):
+            turn.Turn(f"{self.folder}/spool.db", 0, pwd.getpwuid(1).pw_name)
+        self.put("spool.db-lock", "", 0o666)
+        with turn.Turn(f"{self.folder}/spool.db", 0, pwd.getpwuid(1).pw_name) as its, self.assertRaises(PermissionError):
+            with its.database(f"{self.folder}/spool.db", time.sleep):
+                self.fail("another user opens root's file")
+
+    def test_a_link_in_its_place(self) -> None:
+        os.symlink(self.put("victim", "kept"), f"{self.folder}/spool.db-lock")
+        with self.assertRaises(OSError):
+            turn.Turn(f"{self.folder}/spool.db", 0)
+        os.remove(f"{self.folder}/spool.db-lock")
+        os.symlink(f"{self.folder}/nowhere", f"{self.folder}/spool.db-lock")
+        with self.assertRaises(OSError):
+            turn.Turn(f"{self.folder}/spool.db", 0)
+
+    def test_the_lock_of_the_database(self) -> None:
+        path = self.put("spool.db", "x")
+        with turn.Turn(path, 0) as its, its.database(path, time.sleep) as handle:
+            self.assertEqual(b"x", os.pread(handle, 9, 0))
+            with self.assertRaisesRegex(Failure, "is in use by another program, such as sqlite3"), its.database(path, time.sleep):
+                self.fail("two have it")
+            with open(path, "rb+") as other, self.assertRaises(OSError):
+                fcntl.lockf(other, fcntl.LOCK_EX | fcntl.LOCK_NB, 1, 0x40000002)
+
+
+class Kept(Folder):
+    def test_names(self) -> None:
+        for name, kept in (
+            ("duke.json", True), ("7", True), ("keys", True), ("3.untold", True), ("a.answer.b.json", True), ("x.lock", False), (".lock", False), ("7.works", False),
+            ("radio.port", False), ("duke.answer.3", False), ("duke.waits", False), (".duke.json.new", False), ("new", True),
+        ):  # fmt: skip
+            self.assertEqual(kept, backup._is_kept(name), name)
+
+    def test_which_copies_stay(self) -> None:
+        names = [f"mysite.2026110{day}T000000Z{end}" for day, end in ((1, ""), (2, ""), (2, ".2"), (2, ".10"), (3, ""))]
+        for name in *names, "mysite.b.20261101T000000Z", "other.20261101T000000Z", "mysite.20261101T000000Z.new", "x":
+            os.makedirs(f"{self.folder}/copies/{name}/spool")
+        os.symlink("/etc", f"{self.folder}/copies/mysite.20251101T000000Z")
+        os.chmod(f"{self.folder}/copies", 0o700)
+        with backup.Place(f"{self.folder}/copies") as place:
+            place.remove_old("mysite", 2)
+            left = sorted(os.listdir(place.path))
+            self.assertEqual(sorted([*names[-2:], "mysite.b.20261101T000000Z", "other.20261101T000000Z", "mysite.20261101T000000Z.new", "x", "mysite.20251101T000000Z"]), left)
+            with place.begun("mysite.20261103T000000Z") as (chosen, _):
+                place.remove_dead()
+                self.assertEqual("mysite.20261103T000000Z.2", chosen)
+                self.assertEqual(["mysite.20261103T000000Z.2.new"], [it for it in os.listdir(place.path) if it.endswith(".new")])
+                place.keep(chosen)
+            self.assertIn("mysite.20261103T000000Z.2", os.listdir(place.path))
+            with self.assertRaises(KeyError), place.begun("mysite.20261104T000000Z"):
+                raise KeyError
+            self.assertFalse([it for it in os.listdir(place.path) if "1104" in it])
+
+    def test_a_folder_of_somebody_else(self) -> None:
+        os.mkdir(f"{self.folder}/copies")
+        for mode in 0o770, 0o707:
+            os.chmod(f"{self.folder}/copies", mode)
+            with self.assertRaisesRegex(Failure, "others may write"):
+                backup.Place(f"{self.folder}/copies")
+        os.chmod(f"{self.folder}/copies", 0o755)
+        backup.Place(f"{self.folder}/copies").__exit__()
+        self.give(f"{self.folder}/copies")
+        with self.assertRaisesRegex(Failure, "belongs to another user"):
+            backup.Place(f"{self.folder}/copies")

@@ -1,0 +1,446 @@
+"""What the commands do with words, and small decisions of theirs."""
+import os
+import pwd
+from unittest import mock
+from unittest.mock import patch
+
+from uuspool_calls import call, carriers, check, expire, files, hold, move, night, setup, sysfile, taylor
+from uuspool_calls.carriers import folder, ssh, uucico
+from uuspool_calls.errors import Failure
+from uuspool_calls.jobs import Job
+from uuspool_calls.pieces import COMMAND
+from uuspool_calls.processes import Ended
+from uuspool_calls.site import Site, enter
+
+from .standins import LINE, Folder, Quiet, StandIn, parcel, site
+
+FILE = f"{'0' * 64}.3000.1000.m"
+
+
+class Words(Folder):
+    def expect_usage(self, read, *lines: list[str]) -> None:  # type: ignore[no-untyped-def]
+        for words in lines:
+            with self.assertRaises(Failure) as raised:
+                read(words)
+            self.assertEqual(64, raised.exception.status, words)
+
+    def test_calls(self) -> None:
+        self.assertEqual(call.Order("duke", True, True, "C"), call.Order.read(["-np", "-g", "C", "duke"]))
+        self.assertEqual(["--no-jobs", "-gC"], call.Order.read(["-pgC", "duke"]).options())
+        self.assertEqual([True, False], [call.Order.read(it).dry for it in (["-p", "--dry-run", "duke"], ["--", "duke"])])
+        self.expect_usage(call.Order.read, [], ["-x", "duke"], ["duke", "unc"], ["../x"], ["-g"], ["--", "-n"], ["--dry", "duke"], ["--dry-run"])
+
+    def test_nights(self) -> None:
+        self.assertEqual((60, True), night._read(["-w", "-p", "60"]))
+        self.assertEqual((None, False), night._read([]))
+        self.assertEqual((0, False), night._read(["-p0"]))
+        self.expect_usage(night._read, ["-p", "x"], ["duke"], ["-p"], ["-p", "-1"])
+
+    def test_expiries(self) -> None:
+        self.assertEqual((30, 7), expire._read(["-w", "7", "30"]))
+        self.assertEqual((30, None), expire._read(["30"]))
+        self.expect_usage(expire._read, [], ["x"], ["-w", "7"], ["-w", "x", "30"], ["1", "2"])
+
+    def test_keys(self) -> None:
+        setup._expect_key(["ssh-ed25519", "AAAA+/="])
+        setup._expect_key(["sk-ssh-ed25519@openssh.com", "AAAA"])
+        self.expect_usage(setup._expect_key, [], ["ssh-ed25519"], ["ssh-ed25519", 'AAAA" x'], ["rsa", "AAAA"], ["ssh-x y", "A"], ["ssh-x", "A\n"])
+
+    def test_numbers_of_the_environment(self) -> None:
+        self.assertEqual([3600, 20], [Quiet(self.folder, **it).call_limit for it in ({}, {"UUSPOOL_CALL_LIMIT": "20"})])
+        with self.assertRaisesRegex(Failure, "UUSPOOL_AT_ONCE is 1m, and has to be a number"):
+            Quiet(self.folder, UUSPOOL_AT_ONCE="1m").at_once
+
+
+class Carriers(Folder):
+    def setUp(self) -> None:
+        super().setUp()
+        self.session = Quiet(self.folder)
+        self.folder_carrier = self.put("lib/uuspool/carriers/folder", "#!/bin/sh\n", 0o755)
+        self.entry = f"{self.folder}/etc/calls/duke"
+
+    def expect_none(self, why: str) -> None:
+        with self.assertRaisesRegex(carriers.NoCarrier, why):
+            carriers.find(self.session, "duke")
+
+    def test_found(self) -> None:
+        self.put("etc/calls/duke", "# how\n\nfolder\t/media  x\n")
+        found = carriers.find(self.session, "duke")
+        self.assertEqual((self.folder_carrier, ("duke", "/media", "x")), (found.program, found.words))
+        self.put("etc/calls/duke", "#!/bin/sh\n", 0o755)
+        self.assertEqual((self.entry, ("duke",)), (carriers.find(self.session, "duke").program, carriers.find(self.session, "duke").words))
+
+    def test_not_found(self) -> None:
+        self.expect_none("no readable file .* says how to call duke")
+        self.put("etc/calls/duke", "# nothing\n \n")
+        self.expect_none("is empty, so nothing says how to call duke")
+        self.put("etc/calls/duke", "shh b\n")
+        self.expect_none("names the carrier shh, and there is no program")
+        self.put("etc/calls/duke", "/tmp\n")
+        self.expect_none("there is no program /tmp")
+        os.remove(self.entry)
+        os.symlink("/nowhere", self.entry)
+        self.expect_none("is a link to /nowhere, which isn't there")
+
+    def test_an_entry_in_toml(self) -> None:
+        self.put("etc/calls/duke", '# how\ncarrier = "folder"\nwords = ["/media/a b"]\nlimit = 7200\nmost = 200_000\nport = "radio"\npoll = 0\nmounted = true\nuntil = "window"\n')
+        found = carriers.find(self.session, "duke")
+        self.assertEqual((self.folder_carrier, ("duke", "/media/a b"), 7200, 200_000, "radio", 0, True, "window", 0), found[1:])
+        self.assertEqual((True, "/media/a b"), (carriers.any_polls(self.session), found.not_mounted()))
+        self.assertEqual("", found._replace(words=("duke", "/proc/self")).not_mounted())
+        self.put("etc/calls/duke", f'carrier = "{self.folder_carrier}"\n')
+        found = carriers.find(self.session, "duke")
+        self.assertEqual((self.folder_carrier, ("duke",), 0, 0, "", None, False, "", 0), found[1:])
+        self.assertEqual((False, ""), (carriers.any_polls(self.session), found.not_mounted()))
+
+    def test_a_wrong_entry_in_toml(self) -> None:
+        for line, why in (
+            ("limit = ", "is no TOML: Invalid value .at line 2"), ("limt = 3", "there is no key limt: the keys are carrier, words, limit"),
+            ("limit = 0", "limit has to be seconds"), ("limit = true", "limit has to be seconds"), ('poll = "1"', "poll has to be minutes"),
+            ('words = "/x"', "words has to be a list of texts"), ('port = "../x"', "port has to be a name"), ("mounted = 1", "mounted has to be true or false"),
+            ('until = "noon"', 'until has to be "window"'), ("piece = 999", "piece has to be bytes, from 1000 to 1048576"), ("piece = true", "piece has to be bytes"),
+            ("most = 999", "most has to be bytes, from 1000 to 4194304"), ("most = 4_194_305", "most has to be bytes"),
+        ):  # fmt: skip
+            self.put("etc/calls/duke", f'carrier = "folder"\n{line}\n')
+            self.expect_none(why)
+        self.put("etc/calls/duke", 'words = ["/media"]\n')
+        self.expect_none("names no carrier, so nothing says how to call")
+
+    def test_an_entry_of_who_calls_here(self) -> None:
+        for text, values in (
+            ("# how\n\npiece = 100_000", {"piece": 100_000}), ("ssh u@h", {}), ("piece = 1", {}), ("", {}), ('carrier = "folder"\npiece = 2000\n', {"carrier": "folder", "piece": 2000}),
+        ):  # fmt: skip
+            self.put("etc/calls/duke", text)
+            self.assertEqual(values, carriers.values_of(self.session, "duke"))
+        self.assertEqual(2000, carriers.find(self.session, "duke").piece)
+        for text, most in ("most = 50_000\n", 50_000), ("most = 5\n", 0), ("folder /x\n", 0):
+            self.put("etc/calls/duke", text)
+            self.assertEqual(most, carriers.most_for(self.session, "duke"))
+        self.put("etc/calls/duke", "piece = 2000\n", 0o755)
+        self.assertEqual({}, carriers.values_of(self.session, "duke"))
+        self.put("etc/calls/duke", "piece = 2000\n")
+        self.expect_none("names no carrier, so nothing says how to call")
+
+    def test_ssh(self) -> None:
+        etc = f"{self.folder}/etc"
+        line = ssh.line(etc, "mysite", ["duke", "u@h", "-p", "22"])
+        self.assertEqual(["-p", "22", "--", "u@h", "uuspool-answer mysite"], line[-5:])
+        self.put("etc/known_hosts")
+        self.put("etc/keys/duke")
+        line = ssh.line(etc, "mysite", ["duke", "-oProxyCommand=id"])
+        self.assertEqual(["-i", f"{etc}/keys/duke", "-o", "IdentitiesOnly=yes", "-o", f"UserKnownHostsFile={etc}/known_hosts"], line[10:16])
+        self.assertEqual(["--", "-oProxyCommand=id", "uuspool-answer mysite"], line[-3:])
+
+    def test_ports(self) -> None:
+        for words, port in (["h"], "22"), (["h", "-p", "2222"], "2222"), (["h", "-p2222"], "2222"), (["h", "-o", "x"], "22"):
+            self.assertEqual(port, setup.port_of(words))
+
+    def call_by(self, before: str, *words: str) -> str:
+        """The entry of duke after `uuspool-setup duke folder` with these words."""
+        self.put("etc/calls/duke", before)
+        setup.Setup(self.session, "duke").call_by("folder", words)
+        return self.bytes_of("etc/calls/duke").decode()
+
+    def test_limits_of_an_entry_stay(self) -> None:
+        self.put_program()
+        self.session.program = f"{self.folder}/bin/uuspool"
+        for path in "s/a b.db", "uuspool.toml":
+            self.put(path, "x")
+        self.assertEqual("folder /x\n", self.call_by("", "/x"))
+        self.assertEqual("folder /x\n", self.call_by("ssh other\n", "/x"))
+        same = '# mine\ncarrier = "folder"\nwords = ["/x"]\nport = "a"\n'
+        self.assertEqual(same, self.call_by(same, "/x"))
+        self.assertEqual('carrier = "folder"\nwords = ["/\u00fc", "a\\"\\\\"]\nport = "a"\n', self.call_by(same, "/\u00fc", 'a"\\'))
+        self.call_by("piece = 5_000\nmounted = true\n", "/x")
+        self.assertEqual({"carrier": "folder", "words": ["/x"], "piece": 5000, "mounted": True}, carriers.values_of(self.session, "duke"))
+
+    def test_bundles_in_a_folder(self) -> None:
+        session = Quiet(self.folder)
+        shared = folder.Folder(session, os.open(self.folder, os.O_RDONLY), self.folder, "duke", [])
+        self.put("secret", "kept")
+        os.symlink("secret", f"{self.folder}/a-b.bundle")
+        self.put(".a-b.bundle.abcdefgh", "of a killed call")
+        self.assertEqual((False, None), (shared.is_left("a-b.bundle"), shared.opened("a-b.bundle")))
+        shared.put("a-b.bundle", b"text")
+        self.assertEqual((b"kept", b"text"), (self.bytes_of("secret"), shared.opened("a-b.bundle")))
+        self.assertEqual([], [it for it in os.listdir(self.folder) if it.startswith(".")])
+        for most, words in ("", ["pack"]), ("0", ["pack"]), ("9000", ["pack", "--most=9000"]):
+            self.put("bin/uuspool", "#!/bin/sh\necho \"$@\"\n", 0o755)
+            packed = folder.Exchange(Quiet(self.folder, UUSPOOL_MOST=most), "duke", shared)._pack("--after", "3")
+            self.assertEqual(" ".join([*words, "--after", "3", "--", "duke"]), packed.decode().strip())
+        sealed = folder.Folder(session, os.open(self.folder, os.O_RDONLY), self.folder, "duke", [self.put("sealer", "#!/bin/sh\ncat\n[ $1 != open ]\n", 0o755)])
+        sealed.put("a-b.bundle", b"sealed")
+        self.assertEqual((b"sealed", None), (self.bytes_of("a-b.bundle"), sealed.opened("a-b.bundle")))
+
+
+class Queue(taylor.Taylor):
+    """Taylor UUCP's spool as a list of bundles, each with its name."""
+
+    def __init__(self, session: Quiet, spool: list[bytes]) -> None:
+        super().__init__(session, "duke")
+        self.spool_of_bundles = spool
+
+    def run(self, name: str, *words: str, given: bytes | int = b"") -> Ended:
+        if name == "uux":
+            self.spool_of_bundles.append(given if isinstance(given, bytes) else b"")
+        elif words[0] == "-k":
+            del self.spool_of_bundles[int(words[1])]
+        lines = [b"%d duke uucp 11-28 10:00 Executing uuspool-answer\n" % at for at in range(len(self.spool_of_bundles))]
+        return Ended(0, b"".join(lines), b"")
+
+
+class Bundles(uucico.Bundles):
+    """Our bundles in such a spool."""
+
+    def __init__(self, session: Quiet, spool: list[bytes]) -> None:
+        super().__init__(session, "duke", "")
+        self._taylor = Queue(session, spool)
+
+    def _without_jobs(self) -> bytes:
+        return b"no jobs"
+
+
+class TaylorsSpool(Folder):
+    """What is in Taylor's spool after calls that break or not."""
+
+    def setUp(self) -> None:
+        super().setUp()
+        self.spool: list[bytes] = []
+        before = os.getcwd()
+        os.chdir(self.folder)
+        self.addCleanup(os.chdir, before)
+
+    def bundle(self, *grades: str) -> bytes:
+        jobs = [b"job %d 5 %s ann 1 send a b\nx\n" % (at, grade.encode()) for at, grade in enumerate(grades)]
+        return b"bundle mysite duke - 1 z 5\n" + b"".join(jobs) + b"end\n"
+
+    def put_bundle(self, text: bytes, occasion: uucico.Occasion = uucico.Occasion.CALL) -> list[bytes]:
+        Bundles(Quiet(self.folder), self.spool).put(text, occasion)
+        return self.spool
+
+    def leaves(self, broke: bool) -> None:
+        self.spool.clear()
+        Bundles(Quiet(self.folder), self.spool)._note_left(broke)
+
+    def test_a_users_file_of_that_name_is_no_bundle(self) -> None:
+        bundles = Bundles(Quiet(self.folder), self.spool)
+        waiting = [taylor.Waiting("1", "duke", "eve", "Sending /home/eve/uuspool-answer (3 bytes) to ~/x"), taylor.Waiting("2", "duke", "uucp", "Executing uuspool-answer (sending 3 bytes)")]
+        with mock.patch.object(bundles._taylor, "waiting", return_value=waiting):
+            self.assertEqual(["2"], bundles._queued())
+
+    def test_a_bundle_that_a_call_left_there_stays(self) -> None:
+        first, more, higher = self.bundle("N"), self.bundle("N", "Z"), self.bundle("C", "N")
+        self.assertEqual([[first], [first]], [[*self.put_bundle(it)] for it in (first, more)])
+        self.assertEqual([first], self.put_bundle(more, uucico.Occasion.CALLED))
+        self.assertEqual([first], self.put_bundle(more, uucico.Occasion.ANSWER))
+        self.assertEqual([higher], self.put_bundle(higher))
+        self.leaves(broke=False)
+        self.assertEqual([more], self.put_bundle(more))
+
+    def test_an_answer_that_no_call_had_is_replaced(self) -> None:
+        answer, later = self.bundle("N"), self.bundle("N", "Z")
+        for occasion in uucico.Occasion.CALL, uucico.Occasion.CALLED:
+            self.spool.clear()
+            self.assertEqual([answer], [*self.put_bundle(answer, uucico.Occasion.ANSWER)])
+            self.assertEqual([later], self.put_bundle(later, occasion))
+
+    def test_an_answer_that_waits_when_the_next_bundle_came_had_a_call(self) -> None:
+        answer, later = self.bundle("N"), self.bundle("N", "Z")
+        self.put_bundle(answer, uucico.Occasion.ANSWER)
+        self.assertEqual([[answer], [answer]], [[*self.put_bundle(later, it)] for it in (uucico.Occasion.ANSWER, uucico.Occasion.CALL)])
+
+    def test_jobs_that_left_go_again_after_a_whole_call_without_an_answer(self) -> None:
+        text, gone = self.bundle("N"), []
+        for broke in False, True, True, False, False:
+            gone += [*self.put_bundle(text)]
+            self.leaves(broke)
+        self.assertEqual([text, b"no jobs", b"no jobs", b"no jobs", text], gone)
+
+
+class Small(Folder):
+    def test_one_word(self) -> None:
+        self.assertEqual("no-bundle-came,-but:-x-y", call._one_word("no bundle came, but: x\ty"))
+        self.assertEqual("x" * 255, call._one_word("x" * 255))
+        long = call._one_word("uuspool-answer at duke: " * 20 + "no such file")
+        self.assertEqual((255, "..", "no-such-file"), (len(long), long[:2], long[-12:]))
+
+    def test_addresses(self) -> None:
+        for what, words in ("exec rmail joe c!eve", ("rmail", "d!joe", "d!c!eve")), ("exec lp joe", ("lp", "joe")), ("send a b", ("a", "b")), (f"exec {COMMAND} {FILE} 0 exec rmail joe", (COMMAND, FILE, "0", "exec", "rmail", "d!joe")):
+            self.assertEqual(words, move.addressed_on(Job.read(f"1 d ann N 2026-11-28 10:00:00 5 {what}"), "d"))
+
+    def test_lines_without_retries(self) -> None:
+        text = b"system duke\nMax-Retries 0\nmax-retries 00 # none\nmax-retries 10\n# max-retries 0\nmax-retries\t0"
+        self.assertEqual([2, 3, 6], sysfile.without_retries(text))
+
+    def test_what_moves(self) -> None:
+        lines = [LINE, *(LINE.replace("rmail joe", f"{COMMAND} {FILE} {at} send a b") for at in (0, 1000)), LINE]
+        spool = StandIn([parcel(f"{number}{line[1:]}") for number, line in enumerate(lines, 1)])
+        for numbers, moved in (set(), [1, 2, 3, 4]), ({3}, [2, 3]), ({1, 9}, [9, 1]):
+            self.assertEqual(moved, move._chosen(site(self.folder, spool), "duke", numbers))
+
+    def test_definitions(self) -> None:
+        text = "system a\ntime Any\nsystem b.c\ntime Never\n"
+        self.assertEqual({"a": "system a\ntime Any\n", "b.c": "system b.c\ntime Never\n"}, sysfile.definitions(text))
+        self.assertEqual({}, sysfile.definitions(""))
+
+    def test_older_jobs(self) -> None:
+        here = site(self.folder, StandIn())
+        old = LINE.replace("2026", "2001")
+        jobs = [Job.read(it) for it in (LINE, f"8{old[1:]}", f"9{old[1:]}".replace("duke", "mysite"))]
+        self.assertEqual([jobs[1]], expire.older(here, jobs, 3650))
+
+    def test_a_file_is_as_old_as_its_newest_piece(self) -> None:
+        here = site(self.folder, StandIn())
+        lines = [LINE.replace("rmail joe", f"{COMMAND} {'0' * 64}.{size}.1000.x {at} send a b") for size in (2000, 2001) for at in (0, 1000)]
+        lines = [lines[0].replace("2026", "2001"), *(it.replace("2026", "2001") for it in lines[2:]), lines[1]]
+        jobs = [Job.read(f"{number}{line[1:]}") for number, line in enumerate(lines, 1)]
+        self.assertEqual([2, 3], [it.number for it in expire.older(here, jobs, 3650)])
+
+    def test_held(self) -> None:
+        here = site(self.folder, StandIn())
+        hold._hold(here, "duke", ends=False)
+        self.assertEqual((["duke.json"], ["duke"]), (os.listdir(f"{self.folder}/calls"), here.contacts.held()))
+        for name in ";id", "\x1b[2J", "-x":  # (root types the name that a check prints)
+            self.put(f"calls/{name}.json", '{"held": true}')
+        self.assertEqual(["duke"], here.contacts.held())
+        hold._hold(here, "duke", ends=True)
+        self.assertEqual(([], ["duke   held by uuspool-hold", "duke   released by uuspool-hold"]), (here.contacts.held(), here.log))
+
+    def test_what_a_check_finds_without_a_spool(self) -> None:
+        session = Quiet(self.folder)
+        self.put("bin/uuspool", "#!/bin/sh\necho 'uuspool: cannot read /x' >&2\nexit 5\n", 0o755)
+        self.assertEqual(1, check.run(session, []))
+        self.put_program()
+        self.put("uuspool.toml", 'name = "a"\nspol = "x"\n')
+        self.assertEqual(1, check.run(session, []))
+        self.assertEqual(
+            [
+                "uuspool: cannot read /x: install the package, set UUSPOOL_DIR, or correct the settings.",
+                f"{self.folder}/uuspool.toml: line 2: the key spol means nothing here, and is passed over.",
+                f"{self.folder}/s, the folder of the spool, is not there: install -d -o uucp -g uucp -m 700 {self.folder}/s",
+            ],
+            session.printed,
+        )
+
+
+    def test_what_is_no_file_is_not_read(self) -> None:
+        os.mkfifo(f"{self.folder}/pipe")
+        for path in f"{self.folder}/pipe", self.folder, "/dev/zero", f"{self.folder}/nothing":
+            self.assertIsNone(files.read_bytes(path))
+        self.assertEqual(b"x", files.read_bytes(self.put("x", "x")))
+        for text in "[" * 200_000, "[]", "{", '{"a": ' * 200_000:
+            self.assertEqual({}, files.read_record(self.put("x", text)))
+
+    def test_what_a_check_prints_is_no_order_for_a_terminal(self) -> None:
+        session = Quiet(self.folder)
+        check.Check(session).tell("a\x1b[2Jb\nc is held")
+        self.assertEqual(["a?[2Jb?c is held"], session.printed)
+
+    def test_what_a_check_finds_of_taylors_settings(self) -> None:
+        block = " May send by local request: /\n May send by remote request: {}\n May receive by remote request: {}\n May execute {}\n"
+        systems = [("duke", "!/", "!/", "uuspool-answer"), ("unc", "~", "!/", "uuspool-answer"), ("phs", "~", "~", "rmail"), ("x", "~", "~", "uuspool-answer")]
+        text = "".join(f"System: {name}\n{block.format(*words)}\n" for name, *words in systems)
+        self.put("bin/uuchk", f"#!/bin/sh\ncat <<'END'\n{text}END\n", 0o755)
+        session = Quiet(self.folder, PATH=f"{self.folder}/bin:{os.environ['PATH']}")
+        looks = check.Check(session)
+        looks._systems = frozenset(("duke", "unc", "phs"))
+        self.assertTrue(looks._check_requests_by_taylor())
+        self.assertEqual(["unc"], [line.split()[0] for line in session.printed])
+        looks._systems = frozenset(("phs",))
+        self.assertFalse(looks._check_requests_by_taylor())
+
+    def test_what_a_check_finds_of_who_may_run_taylors_programs(self) -> None:
+        for name, mode in (("uux", 0o4755), ("uucp", 0o4750)):
+            self.put(f"bin/{name}", "#!/bin/sh\n", mode)
+        session = Quiet(self.folder, PATH=f"{self.folder}/bin:{os.environ['PATH']}")
+        looks = check.Check(session)
+        looks._owner = pwd.getpwuid(os.geteuid()).pw_name
+        looks._check_users_of_taylor(False)
+        self.assertEqual([], session.printed)
+        looks._check_users_of_taylor(True)
+        lines = [line for line in session.printed if self.folder in line]  # (Taylor's own ones may be on the path, too)
+        self.assertRegex(lines[0], f"^{self.folder}/bin/uux: any local user .* 4750 {self.folder}/bin/uux$")
+        self.assertEqual(1, len(lines))
+
+    def test_who_is_called_by_taylor(self) -> None:
+        looks = check.Check(Quiet(self.folder))
+        for name in "uucico", "folder", "taylor":
+            self.put(f"lib/uuspool/carriers/{name}", "#!/bin/sh\n", 0o755)
+        looks._owner = pwd.getpwuid(os.geteuid()).pw_name
+        for line, found in (("", False), ("folder /x", False), ("uucico", True), ("taylor --no-call", True)):
+            self.put("etc/calls/duke", f"{line}\n")
+            self.assertEqual(found, looks._is_called_by_taylor(), line)
+
+    def test_what_a_check_finds_of_taylors_cleaner(self) -> None:
+        os.makedirs(f"{self.folder}/public")
+        os.chmod(f"{self.folder}/public", 0o1777)
+        expire = self.put("expire", "# a file\n$expire_uucppublic\t\t= 14;\t# days\n")
+        names = {"_CLEANER_OF_TAYLOR": self.put("uudemon.day"), "_EXPIRE_OF_TAYLOR": expire, "_CLEANED_BY_TAYLOR": f"{self.folder}/public"}
+        with patch.multiple(check, **names):
+            for mode, days, found in ((0o1777, 14, 1), (0o755, 14, 0), (0o1777, 0, 0)):
+                os.chmod(f"{self.folder}/public", mode)
+                self.put("expire", f"$expire_uucppublic = {days};\n")
+                session = Quiet(self.folder)
+                check.Check(session)._check_cleaner(f"{self.folder}/public")
+                self.assertEqual(found, len(session.printed), (mode, days))
+
+
+class Entering(Folder):
+    def expect(self, status: int, why: str) -> None:
+        with self.assertRaisesRegex(Failure, why) as raised:
+            enter(Quiet(self.folder))
+        self.assertEqual(status, raised.exception.status)
+
+    def test_what_is_missing(self) -> None:
+        self.expect(78, "bin/uuspool: No such file or directory")
+        self.put_program()
+        self.expect(78, "the folder of the spool that .*/uuspool.toml names, is not there")
+        os.mkdir(f"{self.folder}/s")
+        entered = enter(Quiet(self.folder))
+        self.assertIsInstance(entered, Site)
+        self.assertEqual(["calls", "deliver", "refused"], sorted(os.listdir(f"{self.folder}/s")))
+        self.assertEqual(self.folder, entered.environment["UUSPOOL_DIR"])
+
+    def test_a_folder_of_somebody_else(self) -> None:
+        self.put_program()
+        self.put("uuspool.toml", "")
+        os.mkdir(f"{self.folder}/s")
+        if os.geteuid():
+            self.skipTest("only root can give a folder away")
+        os.chown(f"{self.folder}/s", 65534, -1)
+        with mock.patch("os.geteuid", return_value=1):
+            self.expect(75, "s belongs to nobody: runuser -u nobody -- test ..")
+        os.chown(f"{self.folder}/s", 3_000_000, -1)
+        self.expect(78, "s belongs to user 3000000, who has no account")
+
+    def test_what_root_runs_runs_again_as_the_owner(self) -> None:
+        self.put_program()
+        self.put("uuspool.toml", "")
+        os.mkdir(f"{self.folder}/s")
+        if os.geteuid():
+            self.skipTest("only root can give a folder away")
+        os.chown(f"{self.folder}/s", 65534, -1)
+        before = os.getcwd()
+        session = Quiet(self.folder)
+        became, execute = [], os.execvpe
+
+        def become(program: str, line: list[str], environment: dict[str, str]) -> None:
+            if program != "setsid":
+                execute(program, line, environment)
+            became.append((line, environment["UUSPOOL_DIR"], os.getcwd()))
+            raise SystemExit
+
+        with mock.patch("os.execvpe", become), mock.patch("sys.argv", ["/bin/true", "-n", "duke"]):
+            for words, wanted in (None, ["-n", "duke"]), (["x"], ["x"]):
+                with self.assertRaises(SystemExit):
+                    enter(session, words)
+                line = ["setsid", "-w", "runuser", "-u", "nobody", "--", os.path.realpath("/bin/true"), *wanted]
+                self.assertEqual((line, self.folder, "/"), became.pop())
+        os.chdir(before)
+
+    def test_onward(self) -> None:
+        self.put_program()
+        os.mkdir(f"{self.folder}/s")
+        self.put("etc/forward", "duke  unc\tphs\nduke other\n")
+        entered = enter(Quiet(self.folder))
+        self.assertEqual([["unc", "phs"], []], [entered.onward(it) for it in ("duke", "unc")])

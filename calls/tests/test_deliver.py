@@ -1,0 +1,159 @@
+"""Deliveries: commands, tries, and what is due."""
+import json
+import os
+import time
+from functools import partial
+
+from uuspool_calls import commands, deliver, records, works
+from uuspool_calls.errors import Delay, Refusal
+from uuspool_calls.files import Lock, memory_file
+from uuspool_calls.jobs import Job
+from uuspool_calls.processes import Program
+
+from .standins import LINE, Folder, StandIn, parcel, site
+
+
+class Commands(Folder):
+    def setUp(self) -> None:
+        super().setUp()
+        self.path = self.put("etc/commands", "rmail /r\nlp\t/l\t+options\nrnews /n  +no-words\nnews\t/w\t+options\tc\td\n#off /r\nlpr /l c\ta  d")
+
+    def expect(self, why: str, sender: str, name: str, *words: str) -> None:
+        with self.assertRaisesRegex(Refusal, why):
+            commands.find(self.path, name, "b").expect_allowed("b", sender, words, self.path)
+
+    def test_who_may_run_what(self) -> None:
+        self.expect("b has no command sh for neighbours", "a", "sh", "-c", "id")
+        self.expect("b has no command #off for neighbours", "a", "#off")
+        self.expect("b lets no word of rmail begin with a hyphen: -oQ/tmp", "a", "rmail", "-oQ/tmp")
+        self.expect("b lets rnews have no words", "a", "rnews", "/etc/passwd")
+        self.expect("b does not let a run news", "a", "news")
+        for sender, name, *words in ("a", "rmail", "joe"), ("a", "lp", "-d"), ("c", "news", "-x"), ("", "news"), ("a", "lpr", "x"), ("d", "lpr"):
+            commands.find(self.path, name, "b").expect_allowed("b", sender, words, self.path)
+
+    def test_another_user(self) -> None:
+        path = self.put("etc/other", "lp /usr/bin/lp user=lp duke\nrmail /r")
+        lp, rmail = commands.find(path, "lp", "b"), commands.find(path, "rmail", "b")
+        self.assertEqual((["-u", "lp", "--", "/usr/bin/lp", "x"], {"duke"}), (lp.line(["x"])[-5:], lp.users))
+        self.assertEqual((["sudo", "-n"], ["/r", "x"]), (lp.line([])[:2], rmail.line(["x"])))
+
+    def test_how_long_a_command_may_work(self) -> None:
+        path = self.put("etc/other", "rmail /r limit=10 duke\nrnews /n limit=2 limit=3\nlp /l\nlpr /l limit=x\nlpq /q limit=0\n")
+        rmail = commands.find(path, "rmail", "b")
+        self.assertEqual((600, 180, 50), tuple(commands.find(path, it, "b").seconds(50, path) for it in ("rmail", "rnews", "lp")))
+        self.assertEqual(({"duke"}, ["/r"]), (rmail.users, rmail.line([])))
+        for name in "lpr", "lpq":
+            with self.assertRaisesRegex(Delay, f"other: {name} has limit=.*, which is no number of minutes"):
+                commands.find(path, name, "b").seconds(50, path)
+
+    def test_commands_that_any_neighbour_may_give_options(self) -> None:
+        path = self.put("etc/other", "a /a +options\nb /b +options duke\nc /c +no-words\nd /d")
+        self.assertEqual(["a"], [it.name for it in commands.read(path) if it.is_open])
+
+    def test_a_file_that_is_missing_delays(self) -> None:
+        with self.assertRaisesRegex(Delay, "there is no readable file"):
+            commands.find(f"{self.folder}/nowhere", "rmail", "b")
+
+
+class Records(Folder):
+    def test_tries(self) -> None:
+        job = parcel().job
+        tries = records.Tries.read(self.folder, job, 1000)
+        waits = []
+        for _ in range(7):
+            tries = tries.after_failure("no", 1000)
+            waits.append(tries.next - 1000)
+        self.assertEqual([600, 1200, 2400, 4800, 9600, 14400, 14400], waits)
+        tries.write(self.folder, 7)
+        self.assertEqual(tries, records.Tries.read(self.folder, job, 5000))
+        self.assertEqual(records.Tries(LINE.replace("joe", "eve"), 0, 0, 5000), records.Tries.read(self.folder, Job.read(LINE.replace("joe", "eve")), 5000))
+        self.assertEqual(7, json.loads(self.bytes_of("7"))["failed"])
+
+    def test_times(self) -> None:
+        tries = records.Tries(LINE, 1, 1600, 1000)
+        self.assertEqual([True, False, False], [tries.is_later(now) for now in (1500, 1600, -86400)])
+        self.assertEqual([False, True], [tries.is_old(1000 + 5 * 86400 + it) for it in (0, 1)])
+
+    def test_damaged_records(self) -> None:
+        for text in "", "x", "{", '{"failed": 1}', "[1]", "\xff", json.dumps({"job": LINE, "failed": "x", "next": 0, "first": 0, "why": ""}):
+            self.put("7", text.encode("latin-1"))
+            self.assertEqual(0, records.Tries.read(self.folder, parcel().job, 1500).failed, text)
+
+    def test_what_is_due(self) -> None:
+        jobs = [Job.read(f"{number}{LINE[1:]}") for number in (1, 2, 3)]
+        os.mkdir(f"{self.folder}/deliver")
+        records.Tries(jobs[0].line, 1, 900, 0).write(f"{self.folder}/deliver", 1)
+        records.Tries(jobs[1].line, 1, 1900, 0).write(f"{self.folder}/deliver", 2)
+        self.assertEqual([3, 1], deliver.due(self.folder, jobs, 1000))
+
+    def test_senders_take_turns(self) -> None:
+        users = ["unc!a", "unc!b", "duke!c", "unc!d", "ann", "duke!e"]
+        jobs = [Job.read(LINE.replace("7", str(at), 1).replace("ann", user)) for at, user in enumerate(users)]
+        self.assertEqual([0, 2, 4, 1, 5, 3], [it.number for it in deliver.by_turns(jobs)])
+
+
+class Clean(Folder):
+    def test_old_records_of_jobs_that_are_gone(self) -> None:
+        spool = StandIn([parcel()])
+        here = site(self.folder, spool)
+        for name in "7", "7.lock", "8", "8.lock", "8.works", "9", "keys", "round":
+            self.put(f"deliver/{name}")
+            os.utime(f"{self.folder}/deliver/{name}", (time.time() - 7200,) * 2)
+        self.put("deliver/9")
+        deliver._clean(here, [parcel().job])
+        self.assertEqual(["7", "7.lock", "9", "round"], sorted(os.listdir(f"{self.folder}/deliver")))
+        self.assertEqual([("forget", "--", "mysite", "7")], spool.asked)
+
+    def test_a_clock_that_jumps_takes_nothing_from_a_delivery_that_goes_on(self) -> None:
+        here = site(self.folder, StandIn())
+        with Lock(f"{self.folder}/deliver/8.lock") as lock:
+            self.assertTrue(lock.take())
+            for name in "8", "8.lock", "8.works":
+                self.put(f"deliver/{name}")
+                os.utime(f"{self.folder}/deliver/{name}", (time.time() - 7200,) * 2)
+            deliver._clean(here, [])
+            self.assertEqual(["8", "8.lock", "8.works"], sorted(os.listdir(f"{self.folder}/deliver")))
+            self.assertTrue(lock.is_current())
+        deliver._clean(here, [])
+        self.assertEqual([], os.listdir(f"{self.folder}/deliver"))
+
+
+class Works(Folder):
+    def test_a_command_whose_beginner_was_killed(self) -> None:
+        path = f"{self.folder}/7.works"
+        self.assertFalse(works.is_so(path))
+        nothing, ready = os.open(os.devnull, os.O_RDWR), f"{self.folder}/ready"
+        words = ["sh", "-c", f"touch {ready}; exec sleep 100"]
+        child = Program(words, "", dict(os.environ), 100, first=partial(works.note, path)).start((nothing, nothing, nothing))
+        os.close(nothing)
+        while not os.path.exists(ready):
+            time.sleep(0.01)
+        self.assertTrue(works.is_so(path))
+        child.terminate()
+        while works.is_so(path):  # (though nobody has waited for it)
+            time.sleep(0.01)
+        child.wait()
+        self.assertFalse(works.is_so(path))
+        works.note(path)
+        self.assertTrue(works.is_so(path))
+        self.put("7.works", self.bytes_of("7.works").replace(b" ", b" 1", 1))
+        self.assertFalse(works.is_so(path))
+        for text in b"", b"x", b"1", b"1 ":
+            self.put("7.works", text)
+            self.assertFalse(works.is_so(path), text)
+
+    def test_a_job_on_which_a_command_works_waits(self) -> None:
+        self.put("etc/commands", "rmail /r\n")
+        deliverer = deliver.Deliverer(site(self.folder, StandIn()))
+        works.note(f"{self.folder}/deliver/7.works")
+        with memory_file(b"x") as content, self.assertRaisesRegex(Delay, "rmail at mysite still works on it"):
+            job = Job.read(LINE.replace("duke", "mysite"))
+            deliverer._hand_over(deliverer._delivered(job, content), job)
+
+
+class Senders(Folder):
+    def test_senders(self) -> None:
+        for user, sender in ("ann", ""), ("a!ann", "a"), ("a!b!ann", "a"):
+            job = Job.read(LINE.replace("ann", user))
+            self.assertEqual(sender, job.sender)
+        self.assertTrue(Job.read(LINE.replace("ann", "a!MAILER-DAEMON")).is_letter)

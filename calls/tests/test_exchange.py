@@ -1,0 +1,313 @@
+"""What becomes of a bundle, of refused jobs and of moves, with a spool of tables."""
+import json
+import os
+
+from uuspool_calls import moves
+from uuspool_calls.errors import Failure, SpoolError
+from uuspool_calls.exchange import Neighbour, NotTaken, expect_size
+from uuspool_calls.jobs import Job
+from uuspool_calls.letters import Letter, Mailroom, NotSent, at_home
+from uuspool_calls.processes import Ended
+from uuspool_calls.refusals import Refuser, forget_old, forget_warnings, has_untold, tell, warn
+from uuspool_calls.spool import Refused, Settled, Unpacked
+
+from .standins import LINE, Folder, Mailer, StandIn, parcel, site
+
+TEXT = b"bundle\nhas 3 5\n"
+JOB = b"bundle\njob 1 5 N ann 1 send a b\nx\nend\n"
+FILE = f"uuspool-piece {'0' * 64}.3000.1000.m"
+
+
+class Taking(Folder):
+    def setUp(self) -> None:
+        super().setUp()
+        self.spool = StandIn([parcel()])
+        self.site = site(self.folder, self.spool)
+        self.neighbour = Neighbour(self.site, "duke", ["unc"])
+
+    def test_settled_before_unpacked(self) -> None:
+        self.spool.settled, self.spool.unpacked = Settled((3, 4), ()), Unpacked(2, ("NoSystem", "Differs"))
+        taken = self.neighbour.take(TEXT)
+        self.assertEqual([("settle", "duke"), ("unpack", "duke", "unc")], self.spool.asked)
+        self.assertEqual((True, True, 1), (taken.moves_jobs, taken.makes_room, taken.unpacked.unwanted))
+        self.assertEqual("the sys file here has to define mysite, this site's own name, and unc", taken.own_fault)
+
+    def test_what_answers_a_call(self) -> None:
+        ask, job = b"bundle duke mysite - 1 z 8784095817163137413\n", b"job 1 5 N ann 1 send a b\nx\n"
+        for text, words in (
+            (ask + b"end\n", ("pack", "-gz", "--", "duke")), (ask + job + b"end\n", ("answer", "--", "duke", "unc")),
+            (b"bundle sealed", ("answer", "--", "duke", "unc")),
+        ):  # fmt: skip
+            self.spool.bundles = [Ended(0, b"ours", b"")]
+            self.assertEqual((b"ours", words), (self.neighbour.reply(text), self.spool.asked[-1]))
+            self.spool.bundles = [Ended(0, b"ours", b"")]
+            Neighbour(self.site, "duke", ["unc"], 9000).reply(text)
+            self.assertEqual((words[0], "--most=9000", *words[1:]), self.spool.asked[-1])
+
+    def test_a_line_that_would_do_nothing_is_left_out(self) -> None:
+        self.assertEqual((), self.neighbour.take(b"bundle\nend\n").settled.done)
+        self.assertEqual([("unpack", "duke", "unc")], self.spool.asked)
+
+    def test_a_bundle_without_jobs_is_taken_and_answered_by_one_program(self) -> None:
+        self.spool.batch = lambda word, *lines: [b"duke done\n", f"{word}: {lines[0][0][0]} {lines[1][0][0]}".encode()]
+        self.assertEqual(b"w1: unpack answer", self.neighbour.take(b"bundle\nend\n", replies=True).reply)
+        for text, replies, refused in (b"bundle\nend\n", False, ()), (JOB, True, ()), (TEXT, True, (Refused(9, "Differs"),)):
+            self.spool.settled = Settled((), refused)
+            self.assertEqual(b"", self.neighbour.take(text, replies).reply)
+        self.site.settings = self.site.settings._replace(seals="/seals")
+        self.assertEqual(b"", self.neighbour.take(b"bundle\nend\n", replies=True).reply)
+
+    def test_waiting_jobs_are_counted_unless_few_are_known_to_wait(self) -> None:
+        """What is known is forgotten while a bundle is taken, so that a stop doesn't leave it."""
+        self.site.session.environment["UUSPOOL_MOST_WAITING"] = "2"
+        counted: list[str] = []
+        self.spool.waiting = lambda system="": counted.append(system) or []  # type: ignore[func-returns-value]
+        self.spool.batch = lambda word, *lines: [b"ours", b"duke 1 5 N 2026-11-28 10:00:00\nunc %d 5 N 2026-11-28 10:00:00\n" % more]
+        for more, is_answered, counts in (0, True, 0), (1, True, 0), (0, False, 1), (0, True, 1), (0, True, 0):
+            counted.clear()
+            self.neighbour.take(JOB)
+            self.assertEqual((counts, b""), (len(counted), self.bytes_of("calls/duke.waits")))
+            if is_answered:
+                self.assertEqual(b"ours", self.neighbour.answer(JOB))
+        self.spool.waiting = lambda system="": [parcel(LINE.replace("ann", "duke!ann")).job] * 2
+        self.neighbour.take(JOB)
+        with self.assertRaisesRegex(NotTaken, "2 jobs of duke wait at mysite, so it takes more later"):
+            self.neighbour.take(JOB)
+
+    def test_what_is_no_bundle(self) -> None:
+        for said, why in (
+            ("uuspool: bundle: NoBundle", "no bundle came, but: Welcome"),
+            ("uuspool: bundle: OtherSender", "another site answers, not duke: Welcome"),
+            ("uuspool: bundle: OtherSite", "this bundle of duke is for another site: Welcome"),
+            ("uuspool: spool: store", "uuspool: spool: store"),
+        ):
+            self.spool.fails["settle"] = SpoolError(2, said)
+            with self.assertRaisesRegex(NotTaken, why):
+                self.neighbour.take(b"Welcome\n\x1b\nhas ")
+        with self.assertRaisesRegex(NotTaken, "more than 4273224 bytes came from duke"):
+            expect_size("duke", bytes(4_273_225))
+
+    def test_a_job_that_differs_gets_another_number(self) -> None:
+        self.spool.settled = Settled((), (Refused(7, "Differs"),))
+        taken = self.neighbour.take(TEXT)
+        self.assertEqual([("queue", "mysite!7!again", "duke", "rmail", "joe"), ("kill", "7")], self.spool.asked[2:])
+        self.assertEqual((1, []), (taken.requeued, taken.faults))
+        self.assertEqual(["duke ann 7 requeued as job 101, since duke has another job of this number (Differs)"], self.site.log)
+
+    def test_each_bundle_with_stale_jobs_passes_twice_as_many_numbers(self) -> None:
+        passed = []
+        for _ in range(4):
+            before, number = self.spool.next, max(self.spool.parcels)
+            self.spool.settled = Settled((), (Refused(number, "Stale"),))
+            self.neighbour.take(TEXT)
+            passed.append(self.spool.next - before)
+        self.assertEqual([1, 2, 4, 8], passed)
+
+    def test_only_the_first_stale_job_of_a_bundle_passes_more(self) -> None:
+        self.neighbour._bundles_with_stale = 3
+        self.spool.parcels[8] = parcel(LINE.replace("7 ", "8 ", 1))
+        self.spool.settled = Settled((), (Refused(7, "Stale"), Refused(8, "Stale")))
+        self.assertEqual(2, self.neighbour.take(TEXT).requeued)
+        self.assertEqual(100 + 8 + 1, self.spool.next)
+
+    def test_a_refused_job_that_somebody_removed_is_no_fault(self) -> None:
+        self.spool.settled = Settled((), (Refused(9, "Differs"), Refused(9, "TooLarge")))
+        self.assertEqual([], self.neighbour.take(TEXT).faults)
+
+    def test_other_refusals(self) -> None:
+        self.spool.settled = Settled((), (Refused(7, "TooLarge"), Refused(8, "NumbersOut"), Refused(9, "NoSystem")))
+        faults = self.neighbour.take(TEXT).faults
+        self.assertEqual(["the spool of duke refuses job 8: NumbersOut", "the sys file of duke has to define duke, its own name"], faults)
+        self.assertEqual(b"it is too large for duke", self.bytes_of("refused/7").partition(b"\n")[0])
+
+    def test_a_job_that_cannot_be_queued_anew(self) -> None:
+        self.spool.settled = Settled((), (Refused(7, "Differs"),))
+        for step, job in ("queue", 7), ("kill", 7):
+            self.spool.fails = {step: SpoolError(3, "uuspool: spool: store")}
+            (fault,) = self.neighbour.take(TEXT).faults
+            self.assertEqual(f"duke refuses job {job} (Differs), and it cannot be queued anew: uuspool: spool: store", fault)
+
+
+class Users(Folder):
+    def test_who_asked_a_neighbour_is_a_user_here(self) -> None:
+        for user, home in ("ann", "ann"), ("duke!ann", "duke!ann"), ("duke!mysite!ann", "ann"), ("duke!mysite!unc!ann", "unc!ann"), ("", ""):
+            self.assertEqual(home, at_home(user, "mysite"))
+
+
+class Refusing(Folder):
+    def setUp(self) -> None:
+        super().setUp()
+        self.spool = StandIn([parcel()])
+        self.site = site(self.folder, self.spool, UUSPOOL_SENDMAIL="/mailer")
+        self.mailer: Mailer = self.site.session.processes
+
+    def refuse(self, **changes: str) -> bool:
+        line = LINE
+        for old, new in changes.items():
+            line = line.replace(old, new)
+        is_refused = Refuser(self.site).refuse(parcel(line), "no such newsgroup")
+        self.told = tell(self.site)
+        return is_refused
+
+    def test_kept_told_removed(self) -> None:
+        self.assertTrue(self.refuse())
+        self.assertEqual(f"no such newsgroup\n{LINE}\nhello".encode(), self.bytes_of("refused/7"))
+        ((words, letter),) = self.mailer.ran
+        self.assertEqual(["/mailer", "-i", "-f", "<>", "--", "ann"], words)
+        self.assertIn(b"Subject: refused: exec rmail joe\nAuto-Submitted: auto-replied\n\n", letter)
+        self.assertIn(b"\n    exec rmail joe\n\nno such newsgroup.\n\nIt was queued at mysite on 2026-11-28 at 10:00:00 as job 7. It begins:\n\n> hello\n", letter)
+        self.assertEqual([("kill", "7")], self.spool.asked)
+        self.assertEqual(["duke ann 7 refused-for-good no such newsgroup"], self.site.log)
+
+    def test_once(self) -> None:
+        self.refuse()
+        self.refuse()
+        self.assertEqual((1, [".lock", "7"]), (len(self.mailer.ran), sorted(os.listdir(f"{self.folder}/refused"))))
+
+    def test_another_job_of_this_number_is_kept_beside_it(self) -> None:
+        self.refuse()
+        self.refuse(joe="eve")
+        self.assertEqual(2, len(self.mailer.ran))
+        self.assertIn(b"eve", self.bytes_of("refused/7.2"))
+        self.assertIn(b"joe", self.bytes_of("refused/7"))
+
+    def test_no_letter_about_a_letter(self) -> None:
+        self.assertTrue(self.refuse(ann="a!MAILER-DAEMON"))
+        self.assertEqual([], self.mailer.ran)
+
+    def test_a_job_that_cannot_be_refused_waits(self) -> None:
+        self.spool.fails["kill"] = SpoolError(3, "uuspool: spool: store")
+        self.assertFalse(self.refuse())
+        self.assertEqual(["job 7 cannot be refused now, and waits: uuspool: spool: store"], self.site.session.said)
+
+    def test_a_letter_that_cannot_be_sent_is_tried_again(self) -> None:
+        self.mailer.status = 75
+        self.assertTrue(self.refuse())
+        self.assertEqual((75, True), (self.told, has_untold(self.site)))
+        self.assertEqual(["the user of job 7, which is refused, cannot be told: /mailer takes no letter"], self.site.session.said)
+        self.assertEqual(["ann", "postmaster"], [words[-1] for words, _ in self.mailer.ran])
+        self.mailer.status = 0
+        self.assertEqual((0, False), (tell(self.site), has_untold(self.site)))
+
+    def test_many_refusals_are_one_letter(self) -> None:
+        for number in range(60):
+            job = parcel(LINE.replace("7", str(number), 1).replace("ann", f"unc!u{number}"))
+            Refuser(self.site).refuse(job, "no such newsgroup")
+        self.assertEqual(0, tell(self.site))
+        letters = [words for words in self.spool.asked if words[0] == "mail"]
+        self.assertEqual([("mail", "--once=mysite!0!refused", "--", "unc!postmaster")], letters)
+        self.assertEqual(60, len(os.listdir(f"{self.folder}/refused")) - 1)
+
+    def test_what_a_sender_may_keep_here(self) -> None:
+        for number, user in (1, "unc!x"), (2, "unc!x"), (3, "duke!y"), (4, "ann"):
+            line = LINE.replace("7", str(number), 1).replace("ann", user).replace(" 5 ", " 700000 ")
+            Refuser(self.site).refuse(parcel(line, b"x" * 700000), "no")
+            os.utime(f"{self.folder}/refused/{number}.untold", (number * 86400,) * 2)
+        tell(self.site)
+        self.site.session.environment |= {"UUSPOOL_REFUSED_DAYS": "40000", "UUSPOOL_REFUSED_MEGABYTES": "1"}
+        forget_old(self.site)
+        kept = sorted(it for it in os.listdir(f"{self.folder}/refused") if it[0] != ".")
+        self.assertEqual(["2", "3", "4"], kept)
+        os.remove(f"{self.folder}/refused/.looked")
+        self.site.session.environment["UUSPOOL_REFUSED_DAYS"] = "30"
+        forget_old(self.site)
+        self.assertEqual([".lock", ".looked"], sorted(os.listdir(f"{self.folder}/refused")))
+
+    def test_a_file_is_refused_with_all_its_pieces_in_one_letter_without_bytes(self) -> None:
+        lines = [LINE.replace("7", str(at), 1).replace(" 5 ", " 1000 ").replace("rmail joe", f"{FILE} {place} send /x ~/y") for at, place in ((7, 0), (8, 2000), (9, 1000))]
+        other = LINE.replace("7", "10", 1).replace("ann", "eve").replace(" 5 ", " 1000 ").replace("rmail joe", f"{FILE} 0 send /x ~/y")
+        self.spool.parcels = {it.job.number: it for it in (parcel(line, b"secret" + bytes(994)) for line in (*lines, other))}
+        self.assertTrue(Refuser(self.site).refuse(self.spool.parcels[8], "no"))
+        self.assertEqual([10], list(self.spool.parcels))
+        self.assertEqual(0, tell(self.site))
+        [[_, text]] = self.mailer.ran
+        self.assertIn(b"A job of yours, 3000 bytes for duke, is refused at mysite:\n\n    send /x ~/y\n\nno.\n", text)
+        self.assertNotIn(b"secret", text)
+        self.assertIn(b" as job 7.\n", text)
+        self.assertEqual(["7", "8", "9"], sorted(it for it in os.listdir(f"{self.folder}/refused") if it[0] != "."))
+
+    def test_jobs_of_one_number_in_two_spools_bring_two_letters(self) -> None:
+        for user in "ann", "bea":
+            Refuser(self.site).refuse(parcel(LINE.replace("ann", user)), "no")
+        self.assertEqual((0, ["ann", "bea"]), (tell(self.site), sorted(words[-1] for words, _ in self.mailer.ran)))
+        for data in b"hello", b"Hello":
+            Refuser(self.site).refuse(parcel(LINE.replace("ann", "eve"), data), "no")
+        self.assertEqual((0, 4), (tell(self.site), len(self.mailer.ran)))
+
+    def test_a_neighbours_user_gets_one_letter_under_a_key(self) -> None:
+        self.refuse(ann="duke!ann")
+        self.assertEqual([("kill", "7"), ("mail", "--once=mysite!7!refused", "--", "duke!ann")], self.spool.asked)
+        self.spool.fails["mail"] = SpoolError(1, "refused NoSystem")
+        self.refuse(ann="unc!ann", joe="eve")
+        self.assertEqual("postmaster", self.mailer.ran[0][0][-1])
+
+    def test_beginnings(self) -> None:
+        for data, shown in (b"", b""), (b"a\tb\x1b\n\nc", b"> a\tb?\n> \n> c\n"), (b"x\n" * 30, b"> x\n" * 20):
+            line = LINE.replace(" 5 ", f" {len(data)} ")
+            text = Letter("refused", "is refused", "why.").text("mysite", Job.read(line), data)
+            self.assertEqual(shown, text.partition(b"It begins:\n\n")[2])
+
+    def test_warnings(self) -> None:
+        self.assertTrue(warn(self.site, parcel(), 30) and warn(self.site, parcel(), 30))
+        self.assertEqual(1, len(self.mailer.ran))
+        self.assertIn(b"Subject: still waits: exec rmail joe\n", self.mailer.ran[0][1])
+        forget_warnings(self.site, {"7"})
+        self.assertEqual(["7.warned"], os.listdir(f"{self.folder}/refused"))
+        forget_warnings(self.site, set())
+        self.assertEqual([], os.listdir(f"{self.folder}/refused"))
+
+    def test_a_letter_that_nobody_takes(self) -> None:
+        self.mailer.status = 1
+        with self.assertRaises(NotSent):
+            Mailroom(self.site).send(Letter("x", "x", "x"), parcel().job, b"")
+
+
+class Moving(Folder):
+    def setUp(self) -> None:
+        super().setUp()
+        self.spool = StandIn([parcel()])
+        self.site = site(self.folder, self.spool)
+
+    def notes(self) -> list[str]:
+        return os.listdir(f"{self.folder}/moves")
+
+    def test_a_move(self) -> None:
+        moves.move(self.site, parcel(), "unc", ["rmail", "duke!joe"])
+        self.assertEqual([("queue", "mysite!7!again", "unc", "rmail", "duke!joe"), ("kill", "7")], self.spool.asked)
+        self.assertEqual(([], ["unc ann 101 moved from duke, where it was job 7"]), (self.notes(), self.site.log))
+
+    def test_a_stop_after_each_step_is_finished(self) -> None:
+        for step in "queue", "kill":
+            self.spool.fails = {step: SpoolError(3, "uuspool: spool: store")}
+            with self.assertRaisesRegex(moves.HalfMoved, "it may wait for both duke and unc until the next call"):
+                moves.move(self.site, self.spool.parcels[7], "unc", ["rmail", "joe"])
+            self.assertEqual(["7"], self.notes())
+            with self.assertRaisesRegex(Failure, "job 7 is half moved: it may wait for both"):
+                moves.finish_all(self.site, "duke")
+        self.spool.fails = {}
+        moves.finish_all(self.site, "phs")
+        self.assertEqual(["7"], self.notes())
+        moves.finish_all(self.site, "unc")
+        self.assertEqual(([], False), (self.notes(), 7 in self.spool.parcels))
+
+    def test_a_refused_move_leaves_the_job(self) -> None:
+        self.spool.fails = {"queue": SpoolError(1, "refused NoSystem")}
+        with self.assertRaisesRegex(moves.NotMoved, "refused NoSystem"):
+            moves.move(self.site, parcel(), "unc", ["rmail", "joe"])
+        self.assertEqual(([], True), (self.notes(), 7 in self.spool.parcels))
+
+    def test_a_note_of_an_earlier_spool_moves_no_job(self) -> None:
+        self.put("moves/7", json.dumps({"job": f"{'0' * 16} duke ann 5 exec rmail joe", "system": "unc", "words": ["rmail", "joe"]}))
+        moves.finish_all(self.site)
+        self.assertEqual(([], []), (self.notes(), self.spool.asked))
+
+    def test_a_note_that_a_stop_left(self) -> None:
+        self.put("moves/7", json.dumps({"job": "w1 duke ann 5 exec rmail joe", "system": "unc", "words": ["rmail", "duke!joe"]}))
+        moves.finish_all(self.site)
+        self.assertEqual(("queue", "mysite!7!again", "unc", "rmail", "duke!joe"), self.spool.asked[0])
+
+    def test_damaged_notes(self) -> None:
+        for text in "", "{", '{"job": 1}', "one line":
+            self.put("moves/7", text)
+            moves.finish_all(self.site)
+        self.assertEqual([], self.spool.asked)

@@ -1,0 +1,412 @@
+"""Files in pieces: how they are named, kept, delivered, refused and queued."""
+import hashlib
+import json
+import os
+import shutil
+import time
+import unittest
+from unittest import mock
+
+from uuspool_calls import deliver, outgoing, pieces, refusals
+from uuspool_calls.delivery import Delivery, Outcome, Wishes
+from uuspool_calls.errors import Delay, Failure, Refusal, SpoolError
+from uuspool_calls.files import memory_file
+from uuspool_calls.jobs import Delivered, Job
+from uuspool_calls.pieces import COMMAND, Piece
+
+from .standins import LINE, Folder, StandIn, parcel, site
+
+SUM = "0" * 64
+LENGTH = 1000
+DATA = bytes(range(256)) * 10  # 2,560 bytes: three pieces
+
+
+def words_of(data: bytes, at: int, *what: str, mark: str = "m", sum_of: str = "") -> tuple[str, ...]:
+    file = f"{sum_of or hashlib.sha256(data).hexdigest()}.{len(data)}.{LENGTH}.{mark}"
+    return COMMAND, file, str(at), *(what or ("send", "/x", "~/in/x"))
+
+
+class Names(unittest.TestCase):
+    def test_words(self) -> None:
+        good = (COMMAND, f"{SUM}.2560.1000.m-1", "2000", "send", "/x", "~/x")
+        piece = Piece.read(good)
+        assert piece
+        self.assertEqual((good, 560, 3, "piece 3 of 3"), (tuple(piece.line()), piece.bytes, piece.total, piece.place))
+        for at, word in (
+            (1, SUM), (1, f"{SUM[1:]}.2560.1000.m"), (1, f"{SUM}.2560.0.m"), (1, f"{SUM}.02560.1000.m"), (1, f"{SUM}.{'9' * 19}.1000.m"), (1, f"{SUM}.2560.1000."),
+            (1, f"{SUM}.2560.1000.../x"), (2, "3000"), (2, "1"), (2, "-1000"), (2, "x"), (3, "request"), (0, "rmail"),
+        ):  # fmt: skip
+            self.assertIsNone(Piece.read((*good[:at], word, *good[at + 1 :])), word)
+        self.assertIsNone(Piece.read(good[:5]))
+        self.assertIsNotNone(Piece.read((COMMAND, f"{SUM}.{'9' * 18}.1.m", "9" * 17, "exec", "rmail", "joe")))
+        self.assertEqual("piece 1 of 1", Piece(SUM, 0, LENGTH, "m", 0, ("send", "a", "b")).place)
+
+    def test_words_of_an_older_site(self) -> None:
+        piece = Piece.read((COMMAND, SUM, "2500000", "2", "~/x"))
+        assert piece
+        self.assertEqual((2_000_000, 500_000, ("send", "~/x", "~/x")), (piece.at, piece.bytes, piece.words))
+        for words in (SUM, "2500000", "3", "~/x"), (SUM, "x", "0", "~/x"), (SUM[1:], "3", "0", "~/x"):
+            self.assertIsNone(Piece.read((COMMAND, *words)), words)
+
+    def test_jobs_of_one_file(self) -> None:
+        lines = [LINE.replace("rmail joe", " ".join(words_of(DATA, at, mark=mark))) for at in (0, 1000) for mark in "mn"]
+        jobs = [Job.read(f"{number}{line[1:]}") for number, line in enumerate((LINE, *lines, lines[0].replace("ann", "eve")))]
+        self.assertEqual([[0], [1, 3], [2, 4], [5]], [[it.number for it in pieces.together(job, jobs)] for job in (jobs[0], jobs[1], jobs[2], jobs[5])])
+        self.assertEqual(("send /x ~/in/x", 2560), (pieces.whole_of(jobs[1]).what, pieces.whole_of(jobs[1]).size))
+        self.assertEqual((jobs[0], "0"), (pieces.whole_of(jobs[0]), pieces.name_of(jobs[0])))
+
+
+class Arrivals(Folder):
+    """A delivery in a folder."""
+
+    def setUp(self) -> None:
+        super().setUp()
+        for name in "public", "refused", "etc":
+            os.mkdir(f"{self.folder}/{name}")
+        self.put("etc/commands", f"rmail {self.folder}/rmail\n")
+        self.put("rmail", f'#!/bin/sh\necho "$UUSPOOL_JOB $*" >>{self.folder}/ran\ncat >{self.folder}/mail\n[ ! -e {self.folder}/busy ] || exit 75\n', 0o755)
+        self.site = site(self.folder, StandIn(), UUSPOOL_PUBLIC=f"{self.folder}/public", UUSPOOL_COMMAND_LIMIT="5")
+        self.session = self.site.session
+        self.session.processes = type(self.session.processes).__mro__[1]()
+        self.delivery = Delivery(self.session, "mysite", (self.folder, f"{self.folder}/refused"), self.session.environment)
+        self.number = 0
+
+    def job(self, words: tuple[str, ...], content: int, user: str = "a!ann") -> Delivered:
+        self.number += 1
+        return Delivered("exec", words, content, "a", user, f"mysite!{self.number}!2026-11-28.10:00:00")
+
+    def take(self, data: bytes, at: int, *what: str, **given: str) -> Outcome:
+        with memory_file(given.pop("piece", "").encode() or data[at : at + LENGTH]) as content:
+            return self.delivery.deliver(self.job(words_of(data, at, *what, **given), content))
+
+    def refuse(self, why: str, data: bytes, at: int, *what: str, **given: str) -> None:
+        with self.assertRaisesRegex(Refusal, why):
+            self.take(data, at, *what, **given)
+
+    def kept(self) -> list[list[str]]:
+        """The files in the folders of those that come."""
+        top = f"{self.folder}/pieces/a"
+        names = sorted(os.listdir(top)) if os.path.isdir(top) else []
+        return [sorted(os.listdir(f"{top}/{name}")) for name in names if not name.endswith(".lock")]
+
+
+class Coming(Arrivals):
+    def test_in_any_order(self) -> None:
+        for order in (0, 1000, 2000), (2000, 1000, 0), (1000, 1000, 2000, 2000, 0), (2000, 0, 0, 1000):
+            for at in order[:-1]:
+                outcome = self.take(DATA, at)
+                self.assertEqual(("kept", f"piece {at // 1000 + 1} of 3 of send /x ~/in/x", False), (outcome.how, outcome.what, outcome.is_last))
+                self.assertFalse(os.path.exists(f"{self.folder}/public/a/in/x"))
+            outcome = self.take(DATA, order[-1])
+            self.assertEqual(("delivered", "send /x ~/in/x", True), (outcome.how, outcome.what, outcome.is_last))
+            self.assertEqual(DATA, self.bytes_of("public/a/in/x"))
+            self.number -= 1
+            self.delivery.forget(self.job(words_of(DATA, order[-1]), -1))
+            self.assertEqual([["about"]], self.kept())
+            shutil.rmtree(f"{self.folder}/pieces")
+            os.remove(f"{self.folder}/public/a/in/x")
+
+    def test_no_more_is_kept_than_came(self) -> None:
+        for at in 2000, 0, 1000:
+            self.take(DATA + bytes(LENGTH), at)
+        self.assertEqual([["about", "whole"]], self.kept())
+        huge = 10**18 - 10
+        for at in 0, huge - huge % LENGTH - LENGTH:
+            with memory_file(bytes(LENGTH)) as content:
+                self.delivery.deliver(self.job((COMMAND, f"{SUM}.{huge}.{LENGTH}.m", str(at), "send", "a", "b"), content))
+        sizes = [os.stat(f"{folder}/{name}").st_size for folder, _, names in os.walk(f"{self.folder}/pieces") for name in names]
+        self.assertLess(sum(sizes), 10 * LENGTH)
+
+    def test_each_piece_costs_the_same(self) -> None:
+        """The last of many pieces looks at no more files than the first ones do."""
+        data = bytes(200 * LENGTH)
+        looks: list[int] = []
+        for at in range(0, len(data), LENGTH):
+            with mock.patch("os.path.exists", side_effect=os.path.exists) as looked, mock.patch("os.listdir", side_effect=os.listdir) as listed:
+                self.take(data, at)
+                looks.append(looked.call_count + listed.call_count)
+        self.assertEqual(1, len(set(looks[1:-1])))
+
+    def test_what_a_stop_left_of_a_piece(self) -> None:
+        self.take(DATA, 0)
+        [folder] = [it for it in os.listdir(f"{self.folder}/pieces/a") if not it.endswith(".lock")]
+        path = f"{self.folder}/pieces/a/{folder}/whole"
+        with open(path, "ab") as file:
+            file.write(b"half")
+        self.take(DATA, 1000)
+        with open(path, "r+b") as file:  # its place, without its bytes
+            file.seek(1000)
+            file.write(bytes(1000))
+        self.take(DATA, 1000)
+        self.take(DATA, 2000)
+        self.assertEqual(DATA, self.bytes_of("public/a/in/x"))
+
+    def test_delivered_once_though_a_stop_came_before_the_note(self) -> None:
+        for at in 0, 1000:
+            self.take(DATA, at, "exec", "rmail", "joe")
+        for _ in range(2):
+            self.assertEqual("exec rmail joe", self.take(DATA, 2000, "exec", "rmail", "joe").what)
+            self.number -= 1
+        self.assertEqual(b"mysite!3!2026-11-28.10:00:00 joe\n", self.bytes_of("ran"))
+        self.number += 1
+        for again in range(2):  # a piece that comes again in another job, before and after the file is forgotten
+            self.assertEqual("came-before", self.take(DATA, 2000, "exec", "rmail", "joe").how)
+            self.number = 2
+            self.delivery.forget(self.job(words_of(DATA, 2000, "exec", "rmail", "joe"), -1))
+            self.assertEqual([["about"]], self.kept())
+
+    def test_a_command_gets_the_whole_with_its_envelope(self) -> None:
+        data = b"Subject: x\n\n" + bytes(2 << 20)
+        length = 1 << 20
+        for at in range(0, len(data), length):
+            with memory_file(data[at : at + length]) as content:
+                file = f"{hashlib.sha256(data).hexdigest()}.{len(data)}.{length}.m"
+                self.delivery.deliver(self.job((COMMAND, file, str(at), "exec", "rmail", "joe"), content))
+        first, _, rest = self.bytes_of("mail").partition(b"\n")
+        self.assertEqual((True, True), (first.startswith(b"From ann ") and first.endswith(b" remote from a"), rest == data))
+
+    def test_a_command_that_fails_is_tried_again_with_the_last_piece(self) -> None:
+        self.put("busy")
+        self.take(DATA, 2000, "exec", "rmail", "joe")
+        self.take(DATA, 1000, "exec", "rmail", "joe")
+        with self.assertRaisesRegex(Delay, "failed with status 75"):
+            self.take(DATA, 0, "exec", "rmail", "joe")
+        os.remove(f"{self.folder}/busy")
+        self.number -= 1
+        self.assertTrue(self.take(DATA, 0, "exec", "rmail", "joe").is_last)
+
+    def test_tries_and_users_dont_mix(self) -> None:
+        self.take(DATA, 0)
+        self.take(DATA, 1000, mark="n")
+        with memory_file(DATA[:LENGTH]) as content:
+            self.delivery.deliver(self.job(words_of(DATA, 0), content, "a!eve"))
+        self.assertEqual(3, len(self.kept()))
+
+    def test_what_is_refused_with_the_first_piece(self) -> None:
+        self.refuse("a file below its public folder|below its public folder alone", DATA, 0, "send", "/x", "/etc/x")
+        self.refuse("below its public folder alone", DATA, 0, "send", "/x", "~/../x")
+        self.refuse("has no command sh", DATA, 0, "exec", "sh", "-c", "id")
+        self.refuse("takes no mail of a for c!joe", DATA, 0, "exec", "rmail", "c!joe")
+        self.refuse("takes no mail of a for c!joe", DATA, 0, "send", "/x", "~/x", "-nc!joe")
+        self.refuse("has no option -x", DATA, 0, "send", "/x", "~/x", "-x")
+        self.refuse("no piece of another file", DATA, 0, "exec", *words_of(DATA, 0))
+        self.refuse("is no piece of a file", DATA, 1)
+        self.assertEqual([], self.kept())
+
+    def test_pieces_that_contradict_each_other(self) -> None:
+        self.refuse("piece 1 of 3 of ~/in/x has 3 bytes, not 1000", DATA, 0, piece="abc")
+        self.take(DATA, 0)
+        self.take(DATA, 1000)
+        self.refuse("piece 1 of 3 of ~/in/x came twice, with other bytes", DATA, 0, piece="x" * LENGTH)
+        self.take(DATA, 0, mark="early")
+        self.take(DATA, 2000, mark="early")
+        self.refuse("piece 3 of 3 of ~/in/x came twice", DATA, 2000, mark="early", piece="x" * 560)
+        self.refuse("not those of one file, which changed", b"abc", 0, sum_of=SUM)
+
+    def test_a_full_disk_takes_no_piece(self) -> None:
+        disk = os.statvfs(self.folder)
+        with mock.patch("os.statvfs", return_value=mock.Mock(f_bavail=4, f_blocks=100, f_favail=disk.f_favail, f_files=disk.f_files)):
+            with self.assertRaisesRegex(Delay, "less than one part in 20 of the disk .* is free"):
+                self.take(DATA, 0)
+        self.take(DATA, 0)
+
+
+class Refused(Arrivals):
+    def setUp(self) -> None:
+        super().setUp()
+        self.deliverer = deliver.Deliverer(self.site)
+        self.spool: StandIn = self.site.spool  # type: ignore[assignment]
+        self.log: list[str] = self.site.log  # type: ignore[assignment]
+
+    def give(self, at: int, *what: str, number: int = 0, data: bytes = DATA) -> int:
+        """Delivers a piece as a job of the spool."""
+        words = words_of(data, at, *what)
+        self.number = number or self.number + 1
+        text = data[at : at + LENGTH]
+        it = parcel(f"{self.number} mysite a!ann N 2026-11-28 10:00:00 {len(text)} exec {' '.join(words)}", text)
+        self.spool.parcels[self.number] = it
+        return self.deliverer.deliver(self.number)
+
+    def letters(self) -> list[tuple[str, ...]]:
+        return [it for it in self.spool.asked if it[0] == "mail"]
+
+    def test_one_letter_though_pieces_come_later(self) -> None:
+        self.put("public/a/in/x/y")
+        for at in 0, 1000, 2000:
+            self.assertEqual(0, self.give(at))
+        self.assertEqual(0, refusals.tell(self.site))
+        self.assertEqual([("mail", "--once=mysite!1!refused", "--", "a!ann")], self.letters())
+        [folder] = [it for it in os.listdir(f"{self.folder}/refused") if it.endswith(".file")]
+        self.assertEqual((DATA, []), (self.bytes_of(f"refused/{folder}/whole"), self.kept()))
+        self.assertEqual(["mysite a!ann 1 kept piece 1 of 3 of send /x ~/in/x", "mysite a!ann 2 kept piece 2 of 3 of send /x ~/in/x"], self.log[:2])
+        self.assertRegex(self.log[2], "^mysite a!ann 3 refused-for-good ~/in/x is a folder, or leads out")
+
+    def test_a_file_refused_with_its_first_piece_takes_the_others(self) -> None:
+        for at in 0, 1000, 2000:
+            self.give(at, "exec", "sh")
+            self.assertEqual(0, refusals.tell(self.site))
+        self.assertEqual(1, len(self.letters()))
+        [folder] = [it for it in os.listdir(f"{self.folder}/refused") if it.endswith(".file")]
+        self.assertEqual(DATA, self.bytes_of(f"refused/{folder}/whole"))
+        self.assertEqual("mysite a!ann 3 refused-for-good mysite has no command sh for neighbours: " + f"{self.folder}/etc/commands has no line of it", self.log[2])
+
+    def test_a_job_that_is_no_piece_is_kept_as_a_job(self) -> None:
+        self.spool.parcels[1] = parcel(f"1 mysite a!ann N 2026-11-28 10:00:00 5 exec {COMMAND} x")
+        self.assertEqual(0, self.deliverer.deliver(1))
+        self.assertEqual(["1.untold"], os.listdir(f"{self.folder}/refused"))
+
+    def test_a_file_of_which_no_more_comes(self) -> None:
+        self.give(0)
+        self.give(2000)
+        self.give(0, "exec", "rmail", "joe", number=9)
+        folders = [f"{self.folder}/pieces/a/{it}" for it in os.listdir(f"{self.folder}/pieces/a") if not it.endswith(".lock")]
+        for days in 29, 31:
+            for path in folders:
+                os.utime(path, (time.time() - days * 86400,) * 2)
+            deliver._refuse_unfinished(self.site)
+            self.assertEqual(2 if days < 30 else 0, len(self.kept()))
+        self.assertIn("mysite a!ann  refused-for-good send /x ~/in/x: 2 of 3 pieces came, and no other one for 30 days", self.log)
+        self.assertEqual(0, refusals.tell(self.site))
+        self.assertEqual([("mail", f"--once=mysite!{number}!refused", "--", "a!ann") for number in (1, 9)], sorted(self.letters()))
+        self.assertEqual("refused", self.delivery_again(1000))
+
+    def delivery_again(self, at: int) -> str:
+        with memory_file(DATA[at : at + LENGTH]) as content:
+            return self.delivery.deliver(self.job(words_of(DATA, at), content)).how
+
+    def test_a_newer_piece_begins_the_time_anew(self) -> None:
+        self.give(0)
+        [folder] = [it for it in os.listdir(f"{self.folder}/pieces/a") if not it.endswith(".lock")]
+        for at in 1000, 0:
+            os.utime(f"{self.folder}/pieces/a/{folder}", (0, 0))
+            self.give(at)
+            deliver._refuse_unfinished(self.site)
+            self.assertEqual(1, len(self.kept()))
+
+    def test_what_a_stop_left_is_removed(self) -> None:
+        for at in 0, 1000, 2000:
+            self.take(DATA, at)
+        self.put("pieces/a/odd/about", "{")
+        self.put("pieces/a/gone.lock")
+        for name in os.listdir(f"{self.folder}/pieces/a"):
+            os.utime(f"{self.folder}/pieces/a/{name}", (0, 0))
+        deliver._refuse_unfinished(self.site)
+        deliver._refuse_unfinished(self.site)
+        self.assertEqual(([], []), ([it for it in os.listdir(f"{self.folder}/pieces/a") if not it.endswith(".lock")], os.listdir(f"{self.folder}/refused")))
+
+    def test_the_newest_file_is_kept_however_large(self) -> None:
+        self.put("public/a/in/x/y")
+        for at in 0, 1000, 2000:
+            self.give(at)
+        for name in "1", "2":
+            self.put(f"refused/{name}", b"no\n" + LINE.replace("ann", "a!ann").encode() + b"\n" + bytes(700_000))
+            os.utime(f"{self.folder}/refused/{name}", (86400 * int(name),) * 2)
+        self.session.environment |= {"UUSPOOL_REFUSED_DAYS": "40000", "UUSPOOL_REFUSED_MEGABYTES": "0"}
+        refusals.forget_old(self.site)
+        self.assertEqual(1, len([it for it in os.listdir(f"{self.folder}/refused") if it[0] != "."]))
+        self.session.environment["UUSPOOL_REFUSED_DAYS"] = "0"
+        os.utime(f"{self.folder}/refused/{[it for it in os.listdir(f'{self.folder}/refused') if it[0] != '.'][0]}", (0, 0))
+        os.remove(f"{self.folder}/refused/.looked")
+        refusals.forget_old(self.site)
+        self.assertEqual([".looked"], os.listdir(f"{self.folder}/refused"))
+
+
+class Letters(Refused):
+    def test_a_letter_when_it_came(self) -> None:
+        for at in 0, 1000, 2000:
+            self.give(at, "send", "/x", "~/in/x", "-m", "-nbob")
+        self.assertEqual([("mail", "--once=mysite!3!came", "--", "a!ann")], self.letters())
+        self.assertEqual([["about"]], self.kept())
+
+    def test_who_cannot_be_told_is_told_later(self) -> None:
+        self.spool.fails["mail"] = SpoolError(3, "uuspool: spool: store")
+        self.site.environment["UUSPOOL_SENDMAIL"] = "/nowhere"
+        with self.assertRaisesRegex(Failure, "job 1 is delivered, and a!ann cannot be told"):
+            self.give(0, "send", "/x", "~/in/x", "-m", data=b"abc")
+        os.remove(f"{self.folder}/public/a/in/x")
+        self.spool.fails = {}
+        self.assertEqual(0, self.give(0, "send", "/x", "~/in/x", "-m", number=1, data=b"abc"))
+        self.assertEqual((2, False), (len(self.letters()), os.path.exists(f"{self.folder}/public/a/in/x")))
+
+    def test_wishes(self) -> None:
+        self.assertEqual(Wishes(True, "bob"), Wishes.read(["-m", "-nbob"]))
+        for word in "-n", "-x", "m":
+            with self.assertRaises(Refusal):
+                Wishes.read([word])
+
+
+class HandedOn(Refused):
+    def test_mail_for_one_next_hop(self) -> None:
+        self.put("etc/forward", "a unc phs\n")
+        data = b"Subject: x\n\n" + bytes(2_000_000)
+        length, file = 1 << 20, f"{hashlib.sha256(data).hexdigest()}.{len(data)}.{1 << 20}.m"
+        for addresses, hop in (("unc!joe", "unc!phs!eve"), ("joe", "phs!eve")), (("unc!joe", "phs!joe"), ()), (("joe",), ()):
+            self.spool.asked = []
+            for at in range(0, len(data), length):
+                self.number += 1
+                words = " ".join((COMMAND, file, str(at), "exec", "rmail", *addresses))
+                text = data[at : at + length]
+                self.spool.parcels[self.number] = parcel(f"{self.number} mysite a!ann B 2026-11-28 10:00:00 {len(text)} exec {words}", text)
+                self.assertEqual(0, self.deliverer.deliver(self.number))
+            asked = [it for it in self.spool.asked if it[0] == "exec"]
+            mark = f"{self.number}-2026-11-28-10:00:00"
+            self.assertEqual([("unc", "exec", "rmail", *hop)] * 3 if hop else [], [(it[3], *it[7:]) for it in asked])
+            self.assertEqual({mark} if hop else set(), {it[5].rpartition(".")[2] for it in asked})
+            self.assertEqual(not hop, os.path.exists(f"{self.folder}/mail"))
+            shutil.rmtree(f"{self.folder}/pieces")
+
+
+class Older(Arrivals):
+    """Pieces of an older version, which are 1,000,000 bytes long."""
+
+    def test_pieces_that_came_to_an_older_version(self) -> None:
+        data = os.urandom(2 * pieces.SIZE + 5)
+        sum_of = hashlib.sha256(data).hexdigest()
+        for order in (0, 1, 2), (2, 1, 0):
+            folder = f"pieces/a/{sum_of}-123-14"
+            for at in order[:2]:
+                self.put(f"{folder}/{at}", data[at * pieces.SIZE : (at + 1) * pieces.SIZE])
+            self.put(f"{folder}/about", json.dumps({"user": "a!ann", "to": "~/in/x", "size": len(data)}))
+            self.put(f"{folder}/whole", b"x")
+            at = order[2]
+            with memory_file(data[at * pieces.SIZE : (at + 1) * pieces.SIZE]) as content:
+                outcome = self.delivery.deliver(self.job((COMMAND, sum_of, str(len(data)), str(at), "~/in/x"), content))
+            self.assertEqual((True, True), (outcome.is_last, data == self.bytes_of("public/a/in/x")))
+
+    def test_those_of_which_no_more_comes(self) -> None:
+        self.put(f"pieces/a/{SUM}-1-2/1", "x")
+        self.put(f"pieces/a/{SUM}-1-2/about", json.dumps({"user": "a!ann", "to": "~/x", "size": 2_500_000}))
+        os.utime(f"{self.folder}/pieces/a/{SUM}-1-2", (0, 0))
+        deliver._refuse_unfinished(self.site)
+        self.assertEqual(["mysite a!ann  refused-for-good send ~/x ~/x: 1 of 3 pieces came, and no other one for 30 days"], self.site.log)
+        self.assertEqual(0, refusals.tell(self.site))
+
+
+class Going(Folder):
+    def setUp(self) -> None:
+        super().setUp()
+        self.spool = StandIn()
+        self.site = site(self.folder, self.spool)
+
+    def queue(self, data: bytes, *words: str) -> list[tuple[str, ...]]:
+        self.spool.asked = []
+        what = outgoing.Parcelled("duke", "duke!ann", "B", "mysite!7!request", "7-x", ("send", "~/f", "~/g", *words))
+        with memory_file(data) as content:
+            outgoing.queue(self.site, what, content)
+        return self.spool.asked
+
+    def test_as_a_job_or_in_pieces(self) -> None:
+        self.assertEqual([("send", "-gB", "--once=mysite!7!request", "--", "duke", "~/f", "~/g")], self.queue(bytes(1 << 20)))
+        data = bytes((1 << 20) + 1)
+        self.assertEqual(["0", "1000000"], [it[-4] for it in self.queue(data)])
+        self.put("etc/calls/duke", "piece = 100_000\n")
+        asked = self.queue(bytes(250_000))
+        sums = hashlib.sha256(bytes(250_000)).hexdigest()
+        file = f"{sums}.250000.100000.7-x"
+        self.assertEqual([("exec", "-gB", "--", "duke", COMMAND, file, str(at), "send", "~/f", "~/g") for at in (0, 100_000, 200_000)], asked)
+        for number, user in (1, "duke!ann"), (2, "duke!eve"):
+            waits = LINE.replace("ann", user).replace("rmail joe", f"{COMMAND} {file} {(number - 1) * 100_000} send ~/f ~/g")
+            self.spool.parcels[number] = parcel(waits)
+        self.assertEqual(["100000", "200000"], [it[6] for it in self.queue(bytes(250_000))])  # after a stop
+        self.assertEqual(1, len(self.queue(bytes(100_000))))
+        self.assertEqual([(COMMAND, "-m")], [(it[4], it[-1]) for it in self.queue(b"", "-m")])

@@ -1,0 +1,271 @@
+"""Programs that are run, locks, and files that are replaced."""
+import os
+import signal
+import threading
+import time
+
+from uuspool_calls import contacts, files
+from uuspool_calls import processes as running
+from uuspool_calls.errors import Failure, Stopped
+from uuspool_calls.processes import Child, Children, Processes, Program
+
+from .standins import Folder
+
+
+class Programs(Folder):
+    def run_words(self, *words: str, given: bytes = b"", joined: bool = False, **how: object):  # type: ignore[no-untyped-def]
+        program = Program(words, self.folder, dict(os.environ), **how)  # type: ignore[arg-type]
+        return Processes().run(program, given, joined)
+
+    def sh(self, script: str, **how: object):  # type: ignore[no-untyped-def]
+        return self.run_words("sh", "-c", script, **how)
+
+    def test_statuses(self) -> None:
+        self.assertEqual([0, 7, 137], [self.sh(it).status for it in ("true", "exit 7", "kill -KILL $$")])
+        self.assertEqual([127, 127], [self.run_words("/nowhere", **how).status for how in ({}, {"limit": 5})])
+
+    def test_what_cannot_be_executed(self) -> None:
+        script = self.put("script", "no program")
+        self.assertEqual((126, b"%s: Permission denied\n" % script.encode()), self.run_words(script)[0:3:2])
+        os.chmod(script, 0o755)
+        self.assertEqual((127, b"%s: Exec format error\n" % script.encode()), self.run_words(script)[0:3:2])
+        self.assertEqual(127, Processes().run(Program(["true"], "/nowhere", dict(os.environ))).status)
+
+    def test_what_a_program_has(self) -> None:
+        """Signals as the system gives them, and no file but its streams. (A shell lets what it runs beside itself ignore QUIT.)"""
+        self.addCleanup(signal.signal, signal.SIGQUIT, signal.signal(signal.SIGQUIT, signal.SIG_DFL))
+        with open("/dev/null", "rb") as file:
+            os.set_inheritable(file.fileno(), True)
+            self.assertEqual(b"0\n1\n2\n", self.sh("ls /proc/$$/fd").output)
+        ignored = self.run_words("grep", "-E", "SigIgn|SigBlk", "/proc/self/status").output.split()[1::2]
+        self.assertEqual([b"0" * 16] * 2, ignored)
+
+    def test_outputs(self) -> None:
+        ended = self.sh("echo out; echo err >&2")
+        self.assertEqual((b"out\n", b"err\n"), (ended.output, ended.errors))
+        self.assertEqual(b"out\nerr\n", self.sh("echo out; echo err >&2", joined=True).output)
+
+    def test_an_input_is_a_file_that_can_be_read_again(self) -> None:
+        self.assertEqual(b"abcabc", self.sh("cat; [ -f /dev/stdin ] && cat /dev/stdin", given=b"abc").output)
+
+    def test_large_outputs_while_nothing_is_read(self) -> None:
+        data = os.urandom(3_000_000)
+        self.assertEqual(data, self.run_words("cat", given=data).output)
+
+    def test_how_much_of_its_input_a_program_read(self) -> None:
+        data, seen = os.urandom(200_000), []
+        script = "head -c 70000; sleep 1.2; head -c 30000 | tail -c 1"
+        program = Program(["sh", "-c", script], self.folder, dict(os.environ))
+        ended = Processes().run(program, data, watch=lambda read, output: seen.append((read, len(output))))
+        self.assertEqual((100_000, 70_001, (70_000, 70_000)), (ended.read, len(ended.output), seen[-2]))
+        self.assertEqual([0, 200_000], [self.sh(script, given=data).read for script in ("exit 1", "cat; exit 1")])
+
+    def test_what_writes_too_much(self) -> None:
+        ended = self.sh("head -c 3000000 /dev/zero; exit 3", most=1000)
+        self.assertEqual((3, 1001, True), (ended.status, len(ended.output), ended.wrote_too_much))
+        ended = self.run_words("cat", "/dev/zero", most=1000, ends_beyond=True, limit=60)
+        self.assertEqual((1001, True), (len(ended.output), ended.wrote_too_much))
+
+    def test_a_program_that_stops_what_should_end_it(self) -> None:
+        before = running._GRACE, running._MARGIN
+        running._GRACE, running._MARGIN = 1, 0
+        try:
+            began = time.monotonic()
+            self.assertEqual(137, self.sh("kill -STOP $PPID; sleep 4", limit=0.3).status)
+            self.assertLess(time.monotonic() - began, 3.5)
+        finally:
+            running._GRACE, running._MARGIN = before
+
+    def test_limits_end_children_too(self) -> None:
+        begun = time.monotonic()
+        self.assertEqual(124, self.sh("sleep 1000 & sleep 1000", limit=0.3).status)
+        self.assertLess(time.monotonic() - begun, 100)
+
+    def test_a_daemon_that_is_left_behind_isnt_waited_for(self) -> None:
+        begun = time.monotonic()
+        ended = self.sh("echo before; setsid sleep 60 & exit 0", limit=60)
+        self.assertEqual(b"before\n", ended.output)
+        self.assertLess(time.monotonic() - begun, 40)
+
+
+class Stops(Folder):
+    def in_child(self, work, begun: str = "") -> int:  # type: ignore[no-untyped-def]
+        """The status of a process that is stopped within its work, once this file is there."""
+        ready, told = os.pipe()
+        child = os.fork()
+        if child == 0:
+            try:
+                processes = Processes()
+                processes.catch_stops()
+                os.write(told, b"x")
+                work(processes)
+                os._exit(0)
+            except Stopped:
+                os._exit(75)
+        os.read(ready, 1)
+        ends = time.monotonic() + 60
+        while begun and not os.path.exists(f"{self.folder}/{begun}") and time.monotonic() < ends:
+            time.sleep(0.02)
+        time.sleep(0.3)
+        os.kill(child, signal.SIGTERM)
+        before = time.monotonic()
+        status = os.waitstatus_to_exitcode(os.waitpid(child, 0)[1])
+        self.assertLess(time.monotonic() - before, 30)
+        return status
+
+    def sleeper(self) -> Program:
+        return Program(["sh", "-c", f"echo $$ >{self.folder}/pid; sleep 1000"], self.folder, dict(os.environ), 100)
+
+    def test_what_may_take_long_is_ended(self) -> None:
+        self.assertEqual(75, self.in_child(lambda processes: processes.run(self.sleeper()), "pid"))
+        number = int(self.bytes_of("pid"))
+        self.assertFalse(os.path.exists(f"/proc/{number}/exe"))
+
+    def test_what_is_short_ends_by_itself(self) -> None:
+        program = Program(["sh", "-c", "touch begun; sleep 1; echo done >done"], self.folder, dict(os.environ))
+        self.assertEqual(75, self.in_child(lambda processes: processes.run(program), "begun"))
+        self.assertEqual(b"done\n", self.bytes_of("done"))
+
+    def test_waits_are_ended(self) -> None:
+        for work in (
+            lambda processes: processes.pause(100),
+            lambda processes: processes.read_input(os.pipe()[0], 10, 100),
+            lambda processes: processes.write_output(os.pipe()[1], bytes(1_000_000), 100),
+        ):
+            self.assertEqual(75, self.in_child(work))
+
+    def test_children_are_ended(self) -> None:
+        def work(processes: Processes) -> None:
+            with Children(processes, 1) as others, Children(processes, 2) as children:
+                others.start(lambda: Child(lambda: self.wait_for_stop(processes, "other")))
+                children.start(lambda: Child(lambda: self.wait_for_stop(processes, "child")))
+                children.wait()
+
+        self.assertEqual(75, self.in_child(work, "child.begun"))
+        self.assertEqual([b"stopped"] * 2, [self.bytes_of("child"), self.bytes_of("other")])
+
+    def wait_for_stop(self, processes: Processes, name: str) -> int:
+        processes.begin_as_child()
+        try:
+            self.put(f"{name}.begun")
+            processes.pause(100)
+        except Stopped:
+            self.put(name, "stopped")
+        return 0
+
+
+class Side(Folder):
+    def test_so_many_at_a_time(self) -> None:
+        processes, most = Processes(), []
+
+        def work() -> int:
+            os.close(os.open(f"{self.folder}/{os.getpid()}", os.O_CREAT))
+            count = len(os.listdir(self.folder))
+            time.sleep(0.2)
+            os.remove(f"{self.folder}/{os.getpid()}")
+            return count
+
+        with Children(processes, 3) as children:
+            for _ in range(7):
+                children.start(lambda: Child(work))
+            children.wait()
+        most = [status for _, status in children.ended]
+        self.assertEqual((7, True), (len(most), 1 <= max(most) <= 3))
+
+    def test_a_wait_for_a_place_and_for_an_end(self) -> None:
+        processes = Processes()
+        source, sink = os.pipe()
+        with Children(processes, 1) as children:
+            self.assertTrue(children.has_place(0))
+            children.start(lambda: Child(lambda: len(os.read(source, 1))))
+            self.assertFalse(children.has_place(0.2))
+            children.wait(0.2)
+            self.assertEqual([], children.ended)
+            os.write(sink, b"x")
+            self.assertTrue(children.has_place(60))
+            self.assertEqual([(0, 1)], children.ended)
+            children.wait(60)
+
+    def test_a_lock_that_is_given_back_is_not_kept_by_children(self) -> None:
+        with files.Lock(f"{self.folder}/lock") as lock, files.Lock(f"{self.folder}/lock") as other:
+            self.assertTrue(lock.take())
+            child = Child(lambda: time.sleep(100) or 0)
+            self.assertFalse(other.take())
+            lock.give_back()
+            self.assertTrue(other.take())
+            child.kill()
+            child.wait()
+
+    def test_inputs(self) -> None:
+        processes = Processes()
+        source, sink = os.pipe()
+        os.write(sink, b"abcdef")
+        self.assertEqual(b"abcd", processes.read_input(source, 3, 5))
+        self.assertIsNone(processes.read_input(source, 100, 0.2))
+        os.close(sink)
+        self.assertEqual(b"", processes.read_input(source, 100, 5))
+
+    def test_outputs_to_a_slow_reader(self) -> None:
+        source, sink = os.pipe()
+        data, read = os.urandom(300_000), bytearray()
+
+        def reader() -> None:
+            while block := os.read(source, 7000):
+                read.extend(block)
+
+        thread = threading.Thread(target=reader)
+        thread.start()
+        Processes().write_output(sink, data, 10)
+        os.close(sink)
+        thread.join()
+        self.assertEqual(data, bytes(read))
+
+    def test_outputs_that_nobody_takes(self) -> None:
+        with self.assertRaisesRegex(Failure, "nobody took [0-9]+ of 300000 bytes within 1 seconds"):
+            Processes().write_output(os.pipe()[1], bytes(300_000), 1)
+
+
+class Files(Folder):
+    def test_replaced(self) -> None:
+        for data in b"first", b"":
+            files.replace(f"{self.folder}/x", data)
+            self.assertEqual((data, ["x"]), (self.bytes_of("x"), os.listdir(self.folder)))
+        with files.memory_file(b"of an open file") as content:
+            files.replace(f"{self.folder}/x", content, 0o644)
+        self.assertEqual((b"of an open file", 0o644), (self.bytes_of("x"), os.stat(f"{self.folder}/x").st_mode & 0o777))
+
+    def test_fresh(self) -> None:
+        for age, minutes, fresh in (0, 1, True), (3700, 60, False), (3500, 60, True), (-86400, 60, False), (0, 0, False):
+            self.assertEqual(fresh, contacts.is_fresh(int(time.time()) - age, minutes), (age, minutes))
+
+    def test_contacts(self) -> None:
+        known = contacts.Contacts(self.folder)
+        self.assertEqual(contacts.Contact(), known.find("duke"))
+        known.change("duke", held=True, called=7)
+        known.change("duke", same="x")
+        self.assertEqual(contacts.Contact(held=True, called=7, same="x"), known.find("duke"))
+        self.assertEqual((["duke"], ["duke.json"]), (known.held(), os.listdir(f"{self.folder}/calls")))
+        for text in b"", b"{", b"[]", b'{"held": "yes", "called": null, "more": 1}':
+            self.put("calls/duke.json", text)
+            self.assertEqual(contacts.Contact(), known.find("duke"), text)
+
+    def test_many_changes_of_contacts_at_once(self) -> None:
+        known = contacts.Contacts(self.folder)
+        changes = {"held": True, "called": 7, "same": "x", "left": "y", "grade": "N"}
+        with Children(Processes(), 8) as children:
+            for name, value in changes.items():
+                children.start(lambda name=name, value=value: Child(lambda: known.change("duke", **{name: value}) or 0))  # type: ignore[misc]
+            children.wait()
+        self.assertEqual(changes, {name: getattr(known.find("duke"), name) for name in changes})
+
+    def test_locks(self) -> None:
+        path = f"{self.folder}/lock"
+        with files.Lock(path) as one, files.Lock(path) as other:
+            self.assertTrue(one.take())
+            self.assertFalse(other.take())
+            self.assertFalse(other.wait(0.2, time.sleep))
+            self.assertTrue(one.is_current())
+            os.remove(path)
+            self.assertFalse(one.is_current())
+            self.put("lock")
+            self.assertFalse(one.is_current())

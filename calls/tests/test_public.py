@@ -1,0 +1,208 @@
+"""The public folder, while somebody puts links there, and where mail may go."""
+import os
+
+from uuspool_calls import envelope, forward, public
+from uuspool_calls.errors import Delay, Refusal
+from uuspool_calls.files import memory_file
+
+from .standins import Folder
+
+
+class Public(Folder):
+    def setUp(self) -> None:
+        super().setUp()
+        os.mkdir(f"{self.folder}/public")
+        os.mkdir(f"{self.folder}/secret")
+        self.public = public.Public(f"{self.folder}/public", "mysite")
+
+    def put_file(self, path: str, data: bytes = b"x") -> str:
+        with memory_file(data) as content:
+            return self.public.put(path, content)
+
+    def test_paths(self) -> None:
+        for path in "~/a", "a", "~/a/b.c", "1$(id)", "~/a b":
+            self.assertIsNotNone(public.inside(path), path)
+        for path in "/etc/x", "~/../x", "~/.ssh", "~ann/x", "~/a//b", "~/a/", "~/", "", "a/./b", "a/..", "~/~/..", "~/\\../x", "~/a'b", '~/".."/x', "~/a\\b", "~/a\0b", "~/\x1b[2J", "~/a\n":
+            self.assertIsNone(public.inside(path), path)
+
+    def test_the_mark_of_a_neighbours_folder_is_newer_than_its_files(self) -> None:
+        its = public.Public(f"{self.folder}/public", "mysite", "duke")
+        for name in "x", "y":
+            with memory_file(b"x") as content:
+                its.put(name, content)
+            seen = [os.stat(f"{self.folder}/public/duke/{it}").st_mtime for it in (".uuspool", name)]
+            self.assertGreater(seen[0], seen[1] + 86400)
+            os.utime(f"{self.folder}/public/duke/.uuspool", (1, 1))
+
+    def test_files_and_folders_are_made(self) -> None:
+        self.put_file("~/a/b/c", b"bytes")
+        self.assertEqual(b"bytes", self.bytes_of("public/a/b/c"))
+        modes = [os.stat(f"{self.folder}/public/{it}").st_mode & 0o777 for it in ("a", "a/b", "a/b/c")]
+        self.assertEqual([0o755, 0o755, 0o644], modes)
+        self.put_file("~/a/b/c", b"new")
+        self.assertEqual(b"new", self.bytes_of("public/a/b/c.2"))
+        self.assertEqual(["c", "c.2"], sorted(os.listdir(f"{self.folder}/public/a/b")))
+
+    def test_no_link_is_followed(self) -> None:
+        os.symlink(f"{self.folder}/secret", f"{self.folder}/public/out")
+        os.symlink("nowhere", f"{self.folder}/public/dangling")
+        for path in "~/out/x", "~/out", "~/dangling/x":
+            with self.assertRaisesRegex(Refusal, "leads out of the public folder of mysite"):
+                self.put_file(path)
+        self.assertEqual([], os.listdir(f"{self.folder}/secret"))
+
+    def test_a_link_in_the_place_of_the_file_stays(self) -> None:
+        secret = self.put("secret/file", "kept")
+        os.symlink(secret, f"{self.folder}/public/x")
+        self.put_file("~/x", b"new")
+        self.assertEqual((b"kept", b"new"), (self.bytes_of("secret/file"), self.bytes_of("public/x.2")))
+
+    def test_a_file_on_the_way_and_a_folder_at_the_end(self) -> None:
+        self.put_file("~/file")
+        self.put_file("~/folder/x")
+        for path in "~/file/x", "~/folder":
+            with self.assertRaisesRegex(Refusal, "is a folder, or leads out"):
+                self.put_file(path)
+
+    def test_no_folder(self) -> None:
+        self.public = public.Public(f"{self.folder}/nowhere", "mysite")
+        with self.assertRaisesRegex(Delay, "there is no public folder"):
+            self.put_file("~/x")
+
+    def asked(self, path: str) -> bytes:
+        with self.public.opened(path) as content:
+            return os.read(content, 100)
+
+    def test_files_that_are_asked_for(self) -> None:
+        self.put("public/a/there", "bytes")
+        os.symlink("a/there", f"{self.folder}/public/link")
+        self.assertEqual((b"bytes", b"bytes"), (self.asked("~/a/there"), self.asked("~/link")))
+        os.symlink(self.put("secret/file", "kept"), f"{self.folder}/public/out")
+        os.symlink(f"{self.folder}/secret", f"{self.folder}/public/folder")
+        os.mkfifo(f"{self.folder}/public/fifo")
+        for path, why in (
+            ("~/out", "leads out"), ("~/folder/file", "leads out"), ("~/fifo", "no readable file"), ("~/a", "no readable file"),
+            ("~/nowhere", "mysite has no file"), ("/etc/passwd", "below its public folder alone"), ("~/../secret/file", "below its public folder alone"),
+        ):  # fmt: skip
+            with self.assertRaisesRegex(Refusal, why):
+                self.asked(path)
+
+    def test_folders_of_neighbours(self) -> None:
+        common = self.put("common/x").removesuffix("/x")
+        own, shared = (self.put(f"{it}/x").removesuffix("/x") for it in ("own", "shared"))
+        table = self.put("etc/public", f"# a comment\nduke /first\nunc {shared}\nduke\t{own}\nphs {shared}")
+        with memory_file(b"new") as content:
+            names = [public.find(common, table, it, "mysite").put("~/x", content) for it in ("duke", "unc", "phs", "gem", "")]
+        self.assertEqual(["~/x", "~/x.2", "~/x.2", "~/x", "~/x.2"], names)
+        self.assertEqual(["new", "", "new", "new", "", "new"], [self.bytes_of(it).decode() for it in ("own/x", "shared/x", "shared/x.2", "common/gem/x", "common/x", "common/x.2")])
+
+    def test_nothing_of_another_is_replaced(self) -> None:
+        self.put("public/there", "ann's")
+        os.mkfifo(f"{self.folder}/public/fifo")
+        os.symlink("there", f"{self.folder}/public/link")
+        for name in "there", "fifo", "link":
+            self.assertEqual([f"~/{name}.2"] * 2, [self.put_file(f"~/{name}", b"new") for _ in range(2)])
+            self.assertEqual(f"~/{name}.3", self.put_file(f"~/{name}", b"other"))
+        self.assertEqual(b"ann's", self.bytes_of("public/there"))
+
+    def test_a_neighbour_alone_replaces_its_own(self) -> None:
+        duke = public.Public(f"{self.folder}/public", "mysite", "duke")
+        for data in b"old", b"new":
+            with memory_file(data) as content:
+                self.assertEqual("~/a/x", duke.put("~/a/x", content))
+        self.assertEqual(b"new", self.bytes_of("public/duke/a/x"))
+        self.assertEqual(["x"], os.listdir(f"{self.folder}/public/duke/a"))
+        self.give(self.put("public/duke/root", "ann's"))
+        with memory_file(b"new") as content:
+            self.assertEqual("~/root.2", duke.put("~/root", content))
+
+    def test_the_folder_of_a_neighbour_has_to_be_the_sites(self) -> None:
+        self.put("public/file")
+        os.symlink(f"{self.folder}/secret", f"{self.folder}/public/link")
+        os.mkdir(f"{self.folder}/public/open")
+        os.chmod(f"{self.folder}/public/open", 0o777)
+        os.mkdir(f"{self.folder}/public/others")
+        self.give(f"{self.folder}/public/others")
+        for name in "file", "link", "open", "others":
+            with memory_file(b"x") as content, self.assertRaisesRegex(Delay, "remove it"):
+                public.Public(f"{self.folder}/public", "mysite", name).put("~/x", content)
+        self.assertEqual([], os.listdir(f"{self.folder}/secret"))
+
+    def test_what_a_neighbour_may_fetch(self) -> None:
+        self.put("public/for-all/x", "all")
+        duke, unc = (public.Public(f"{self.folder}/public", "mysite", it) for it in ("duke", "unc"))
+        with memory_file(b"duke's") as content:
+            duke.put("~/y", content)
+            duke.put("~/for-all/x", content)
+        os.symlink("duke/y", f"{self.folder}/public/link")
+        asked = {}
+        for who, it in (("duke", duke), ("unc", unc)):
+            for path in "~/for-all/x", "~/y", "~/duke/y", "~/link":
+                try:
+                    with it.opened(path) as content:
+                        asked[who, path] = os.read(content, 9).decode()
+                except Refusal as refusal:
+                    asked[who, path] = str(refusal).partition(" to mysite")[0]
+        self.assertEqual(["duke's", "duke's", "duke's", "duke's"], [asked["duke", it] for it in ("~/for-all/x", "~/y", "~/duke/y", "~/link")])
+        self.assertEqual(["all", "mysite has no file ~/y", "~/duke/y came", "~/link came"], [asked["unc", it] for it in ("~/for-all/x", "~/y", "~/duke/y", "~/link")])
+
+    def test_without_nameless_files(self) -> None:
+        before = public._MAKE_NAMELESS
+        try:
+            public._MAKE_NAMELESS = os.O_WRONLY | os.O_DIRECTORY  # EISDIR, as a file system without them says
+            self.test_nothing_of_another_is_replaced()
+            self.test_a_neighbour_alone_replaces_its_own()
+        finally:
+            public._MAKE_NAMELESS = before
+        self.assertEqual([], [it for _, _, names in os.walk(f"{self.folder}/public") for it in names if it.startswith(".new")])
+
+
+class Forwarding(Folder):
+    def setUp(self) -> None:
+        super().setUp()
+        self.path = self.put("etc/forward", "duke unc @b.example\nhub *\nmysite @mysite.example\n")
+
+    def is_taken(self, address: str, neighbour: str = "duke") -> bool:
+        try:
+            forward.expect_allowed(self.path, "mysite", neighbour, [address])
+            return True
+        except Refusal:
+            return False
+
+    def test_who_gets_mail(self) -> None:
+        for address in "joe", "joe.x-y", "mysite!joe", "joe@mysite.example", "joe@MYSITE.example", "joe@mysite", "unc!joe", "unc!phs!joe", "joe@b.example", "j\xf6e":
+            self.assertTrue(self.is_taken(address), address)
+        for address in (
+            "joe@c.example", "phs!joe", "joe%c.example", "joe%c.example@mysite.example", "unc!joe@c.example", "@c.example:joe@b.example", "|id", "/etc/x",
+            ":include:/x", "-x", '"joe@c.example"@mysite', "mysite!phs!joe", "", "joe@b.example@c.example", "unc!|id", "joe@[127.0.0.1]", "joe\n",
+        ):  # fmt: skip
+            self.assertFalse(self.is_taken(address), address)
+        self.assertTrue(self.is_taken("joe@c.example", "hub"))
+        self.assertFalse(self.is_taken("unc!joe", "phs"))
+
+    def test_what_the_spool_hands_on(self) -> None:
+        self.assertEqual([("unc",), (), ()], [forward.read(self.path, it).systems for it in ("duke", "hub", "phs")])
+
+
+class Envelopes(Folder):
+    def signed(self, data: bytes, user: str = "duke!ann") -> bytes:
+        with memory_file(data) as content, envelope.signed(content, "duke", user, self.folder) as given:
+            return os.pread(given, 1000, 0)
+
+    def test_the_first_line_says_from_which_neighbour(self) -> None:
+        honest = b"From ann Sat Nov 28 12:00:00 2026 remote from duke\n>From joe x remote from unc\n\nhello"
+        self.assertEqual(honest, self.signed(honest))
+        for text, rest in (
+            (b"From president x remote from unc\nhello", b">From president x remote from unc\nhello"),
+            (b"From president remote from unc remote from duke\nhello", b">From president remote from unc remote from duke\nhello"),
+            (b">From x remote from unc\n", b">From x remote from unc\n"), (b"hello", b"hello"), (b"", b""), (b"From x remote from aduke", b">From x remote from aduke"),
+        ):  # fmt: skip
+            first, _, after = self.signed(text).partition(b"\n")
+            self.assertRegex(first, rb"^From ann [A-Z][a-z]{2} [A-Z][a-z]{2} [ \d]\d \d\d:\d\d:\d\d \d{4} remote from duke$")
+            self.assertEqual(rest, after)
+        self.assertTrue(self.signed(b"", "duke!a!b").startswith(b"From a!b "))
+
+    def test_large_mail_has_no_name(self) -> None:
+        with memory_file(bytes(1_048_577)) as content, envelope.signed(content, "duke", "duke!ann", self.folder) as given:
+            self.assertEqual([], os.listdir(self.folder))
+            self.assertEqual(1_048_577, len(os.read(given, 2_000_000).partition(b"\n")[2]))

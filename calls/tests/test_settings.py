@@ -1,0 +1,33 @@
+"""Finding the site."""
+from uuspool_calls import settings
+
+from .standins import SITE, Folder, Quiet
+
+
+class Settings(Folder):
+    def test_what_the_program_prints(self) -> None:
+        found = settings.read(SITE.format(self.folder))
+        self.assertEqual(("mysite", f"{self.folder}/uuspool.toml", self.folder), (found.name, found.path, found.start))
+        self.assertEqual((f"{self.folder}/s/a b.db", f"{self.folder}/s", f"{self.folder}/s/log"), (found.spool, found.folder, found.log))
+
+    def test_clocks(self) -> None:
+        for line, zone in (
+            ("", "<site>-0:0"), ("offset 345", "<site>-5:45"), ("offset -300", "<site>+5:0"), ("zone CET-1CEST", "CET-1CEST"), ("offset 0", "<site>-0:0"),
+        ):  # fmt: skip
+            self.assertEqual(zone, settings.read(f"{SITE.format(self.folder)}{line}\n").zone, line)
+
+    def test_a_program_of_another_version(self) -> None:
+        with self.assertRaisesRegex(settings.NoSite, "says no log"):
+            settings.read(SITE.format(self.folder).partition("log")[0])
+
+    def test_what_the_program_refuses(self) -> None:
+        session = Quiet(self.folder)
+        with self.assertRaisesRegex(settings.NoSite, "bin/uuspool: No such file"):
+            settings.find(session)
+        self.put("bin/uuspool", "#!/bin/sh\n[ $* = site ] && echo 'uuspool: cannot read /x' >&2\nexit 5\n", 0o755)
+        with self.assertRaisesRegex(settings.NoSite, "^uuspool: cannot read /x$"):
+            settings.find(session)
+
+    def test_unknown_keys_have_their_lines(self) -> None:
+        path = self.put("uuspool.toml", 'name = "a"\n"timezone" = "UTC"\nspool = "spool.db"\n[more]\nx = 1\n')
+        self.assertEqual([(2, "timezone"), (4, "more")], settings.unknown_keys(path))

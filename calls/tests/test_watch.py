@@ -1,0 +1,202 @@
+"""Figures of a site, what a monitor says of them, and what a check finds."""
+import os
+import pwd
+import time
+from unittest import mock
+
+from uuspool_calls import check, clock, figures, metrics, monitor
+from uuspool_calls.errors import Failure
+from uuspool_calls.figures import Figures, Neighbour
+from uuspool_calls.processes import Ended
+from uuspool_calls.settings import Settings
+
+from .standins import Folder, Quiet
+
+STATUS = "duke 2 600 failed 2026-11-28 10:00:00 no-|-carrier\nmysite 0 0 never\nunc 0 0 done 2026-11-28 09:00:00\n"
+QUEUES = "duke 3 500 N 2026-11-27 11:00:00\nmysite 1 20 N 2026-11-28 11:59:00\n"
+NOON = 1795867200  # 2026-11-28 12:00:00 UTC
+HOUR = 3600
+
+
+def figures_of(*neighbours: Neighbour, **values: int) -> Figures:
+    """A site with these neighbours, at noon."""
+    return Figures("mysite", NOON, neighbours, **{"room": 1 << 40, **values})
+
+
+class Gathered(Folder):
+    def ask(self, name: str, *words: str, joined: bool = False) -> Ended:
+        texts = {"status": STATUS, "queues": QUEUES}
+        return Ended(0, texts[words[0]].encode(), b"")
+
+    def test_figures(self) -> None:
+        for path in "spool.db", "spool.db-wal":
+            self.put(path, "12345")
+        for path in "refused/1", "refused/2.untold", "refused/3.warned", "refused/.looked", "refused/ab12.file.untold/whole", "refused/12ab.warned", "deliver/7", "deliver/7.lock", "deliver/round":
+            self.put(path)
+        os.utime(f"{self.folder}/deliver/round", (NOON - 60,) * 2)
+        self.put("calls/unc.json", '{"called": %d, "held": true}' % (NOON - 5))
+        found = Settings("mysite", "", "", f"{self.folder}/spool.db", "", "<one>-1")
+        with mock.patch("uuspool_calls.clock.now", return_value=NOON):
+            it = figures.gather(found, self.ask)
+        hour = NOON - 2 * HOUR - HOUR  # (10 o'clock in a zone that is an hour ahead)
+        self.assertEqual(
+            (
+                Neighbour("duke", 3, 500, hour - 23 * HOUR, 2, hour, hour + 600, "no-|-carrier"),
+                Neighbour("mysite", 1, 20, NOON - HOUR - 60),
+                Neighbour("unc", 0, 0, 0, 0, NOON - 5, NOON - 4 * HOUR, held=True),
+            ),
+            it.neighbours,
+        )
+        self.assertEqual(("mysite", NOON, 1, 3, 2, 10, NOON - 60), (it.own, it.now, it.delayed, it.refused, it.untold, it.spool, it.round))
+        self.assertGreater(it.room, 0)
+
+    def test_a_spool_that_cannot_be_asked(self) -> None:
+        found = Settings("mysite", "", "", f"{self.folder}/spool.db", "", "UTC0")
+        with self.assertRaisesRegex(Failure, "the spool cannot be asked: uuspool: x is missing"):
+            figures.gather(found, lambda *words, joined=False: Ended(3, b"uuspool: x is missing\n", b""))
+
+
+class Monitor(Folder):
+    def expect(self, grade: int, what: str, it: Figures, *words: str) -> str:
+        found, line = monitor.report(it, monitor.Limits.read(words, "usage"))
+        name = ("OK", "WARNING", "CRITICAL")[grade]
+        self.assertEqual((grade, f"UUSPOOL {name} - {what}"), (found, line.partition(" | ")[0]))
+        return line.partition(" | ")[2]
+
+    def test_all_is_well(self) -> None:
+        drawn = self.expect(0, "3 jobs wait", figures_of(Neighbour("duke", 3, 500, NOON - 7200), spool=5, refused=2, delayed=1))
+        self.assertEqual(f"jobs=3 bytes=500B oldest=7200s;93600;259200 failed=0;3;10 delayed=1 refused=2 spool=5B free={1 << 40}B", drawn)
+        self.expect(0, "0 jobs wait", figures_of())
+        self.expect(0, "1 job waits", figures_of(Neighbour("duke", 1, 5, NOON + 60)))
+
+    def test_the_age_of_the_oldest_job(self) -> None:
+        for hours, grade in (25, 0), (26, 1), (71, 1), (72, 2):
+            it = figures_of(Neighbour("duke", 1, 5, NOON - hours * HOUR), Neighbour("unc", 0, 0, 1))
+            self.expect(grade, "1 job waits" if not grade else f"a job for duke waits for {hours} hours", it)
+        it = figures_of(Neighbour("duke", 1, 5, NOON - 30 * HOUR, held=True))
+        self.expect(1, "a job for duke waits for 30 hours and it is held", it)
+        self.expect(0, "1 job waits", it, "-w", "31")
+        self.expect(2, "a job for duke waits for 30 hours and it is held", it, "-c30")
+        self.expect(0, "1 job waits", it, "-w0", "-c0")
+
+    def test_calls_that_fail(self) -> None:
+        for failed, grade in (2, 0), (3, 1), (9, 1), (10, 2):
+            it = figures_of(Neighbour("duke", failed=failed, why="no-|-carrier"))
+            self.expect(grade, "0 jobs wait" if not grade else f"{failed} calls of duke failed in a row: no-/-carrier", it)
+        self.expect(2, "2 calls of duke failed in a row: x", figures_of(Neighbour("duke", failed=2, why="x")), "-C", "2")
+
+    def test_the_worst_comes_first(self) -> None:
+        it = figures_of(Neighbour("duke", failed=3, why="x"), Neighbour("unc", 1, 1, NOON - 80 * HOUR))
+        self.expect(2, "a job for unc waits for 80 hours; 3 calls of duke failed in a row: x", it)
+
+    def test_one_system(self) -> None:
+        it = figures_of(Neighbour("duke", failed=3, why="x"), Neighbour("unc", 1, 1, NOON), room=0)
+        self.assertEqual("jobs=1 bytes=1B oldest=0s;93600;259200 failed=0;3;10", self.expect(0, "1 job waits", it, "-s", "unc"))
+        self.expect(2, "no system phs is defined", it, "-sphs")
+
+    def test_the_site(self) -> None:
+        self.expect(1, "uuspool-night made no round for 60 minutes", figures_of(round=NOON - HOUR))
+        self.expect(0, "0 jobs wait", figures_of(round=NOON - HOUR), "-r", "61")
+        self.expect(1, "nobody could be told of 2 refused jobs", figures_of(untold=2))
+        for megabytes, grade in (100, 0), (99, 1), (10, 1), (9, 2):
+            self.expect(grade, "0 jobs wait" if not grade else f"{megabytes} MB are free for the spool", figures_of(room=megabytes << 20))
+
+    def test_wrong_words(self) -> None:
+        for words in ["-w", "x"], ["-x"], ["duke"], ["-c"], ["-m", "-1"]:
+            with self.assertRaises(Failure):
+                monitor.Limits.read(words, "usage")
+
+
+class Metrics(Folder):
+    def test_the_text(self) -> None:
+        it = figures_of(Neighbour("duke", 3, 500, 1000, 2, 2000, NOON + 60, "x", True), Neighbour("unc"), refused=4, round=5)
+        lines = metrics.text(it).splitlines()
+        for line in (
+            'uuspool_up{site="mysite"} 1', 'uuspool_refused_jobs{site="mysite"} 4', 'uuspool_last_round_timestamp_seconds{site="mysite"} 5',
+            'uuspool_jobs{site="mysite",neighbour="duke"} 3', 'uuspool_jobs{site="mysite",neighbour="unc"} 0', 'uuspool_wait_seconds{site="mysite",neighbour="duke"} 60',
+            'uuspool_held{site="mysite",neighbour="duke"} 1', 'uuspool_oldest_job_timestamp_seconds{site="mysite",neighbour="duke"} 1000',
+            'uuspool_failed_calls{site="mysite",neighbour="duke"} 2', 'uuspool_last_call_timestamp_seconds{site="mysite",neighbour="duke"} 2000',
+        ):  # fmt: skip
+            self.assertIn(line, lines)
+        self.assertFalse([line for line in lines if line.startswith(("uuspool_oldest", "uuspool_last_call")) and "unc" in line])
+        kinds = [line.split()[2] for line in lines if line.startswith("# TYPE ")]
+        self.assertEqual(len(set(kinds)), len(kinds))
+        self.assertEqual({line.partition("{")[0] for line in lines if line[0] != "#"}, set(kinds))
+
+    def test_names_are_escaped(self) -> None:
+        self.assertIn('neighbour="a\\\\b\\"c\\nd"} 1', metrics.text(figures_of(Neighbour('a\\b"c\nd', 1))))
+
+    def test_the_file(self) -> None:
+        session = Quiet(self.folder)
+        with self.assertRaisesRegex(Failure, "bin/uuspool: No such file"):
+            check.run(session, ["--metrics", f"{self.folder}/x.prom"])
+        self.assertEqual(b'uuspool_up{site=""} 0\n', self.bytes_of("x.prom").splitlines(True)[-1])
+        self.assertEqual(["x.prom"], os.listdir(self.folder))
+        self.assertEqual(2, check.run(session, ["--monitor"]))
+        self.assertRegex(session.printed[-1], "^UUSPOOL CRITICAL - .*bin/uuspool: No such file")
+        with self.assertRaises(Failure) as raised:
+            check.run(session, ["--monitor", "-x"])
+        self.assertEqual(3, raised.exception.status)
+
+
+class Checked(Folder):
+    def setUp(self) -> None:
+        super().setUp()
+        self.check = check.Check(Quiet(self.folder, UUSPOOL_HOME=f"{self.folder}/home"))
+        self.said = self.check._session.printed  # type: ignore[attr-defined]
+        self.check._owner, self.check._folder = "root", self.folder
+        self.check._settings = self.check._settings._replace(path=self.put("uuspool.toml"))
+
+    def test_neighbours_that_fail(self) -> None:
+        self.check._status = [line.split(" ") for line in STATUS.replace("duke 2", "duke 12").splitlines()]
+        self.check._check_failures()
+        (line,) = self.said
+        self.assertRegex(line, "^12 calls of duke failed in a row, the last one at 2026-11-28 10:00:00: no-|-carrier: uuspool-log -s duke")
+
+    def test_clocks(self) -> None:
+        for zone, machine, found in ("UTC0", "UTC0", 0), ("<site>-1:0", "CET-1CEST,M3.5.0,M10.5.0/3", 1), ("CET-1CEST,M3.5.0,M10.5.0/3", "CET-1CEST,M3.5.0,M10.5.0/3", 0):
+            self.said.clear()
+            self.check._settings = self.check._settings._replace(zone=zone, path="/x/uuspool.toml")
+            with mock.patch("uuspool_calls.clock.rule_of_machine", return_value=machine):
+                self.check._check_zone()
+            self.assertEqual(found, len(self.said), zone)
+        self.check._settings = self.check._settings._replace(zone="UTC0")
+        with mock.patch("uuspool_calls.clock.rule_of_machine", return_value="<two>-2"):
+            self.check._check_zone()
+        self.assertIn('write zone = "<two>-2" instead of offset into /x/uuspool.toml', self.said[-1])
+
+    def test_accounts(self) -> None:
+        self.check._check_accounts()
+        self.assertEqual([], self.said)
+        self.put("home/.ssh/authorized_keys", "key")
+        with mock.patch("pwd.getpwnam", side_effect=KeyError):
+            self.check._check_accounts()
+        with mock.patch("pwd.getpwnam", return_value=pwd.struct_passwd(("uuspool", "x", 10, 10, "", "/", "/usr/sbin/nologin"))):
+            self.check._check_accounts()
+        self.check._owner = "12345"
+        with mock.patch("pwd.getpwnam", return_value=pwd.struct_passwd(("uuspool", "x", 10, 10, "", "/", "/bin/sh"))):
+            self.check._check_accounts()
+        self.assertEqual(["There is no account uuspool", "The account uuspool has the shell /usr/sbin/nologin", f"{self.folder} belongs to user 12345"], [it.partition(",")[0] for it in self.said])
+
+    def test_commands_that_run_as_nobody_known(self) -> None:
+        self.put("etc/commands", "lp /bin/true user=nosuchuser\nrmail /bin/true limit=x\n")
+        self.check.deliveries()
+        self.assertIn(f"{self.folder}/etc/commands: lp runs as nosuchuser, and there is no such account: adduser --system nosuchuser", self.said)
+        self.assertIn(f"{self.folder}/etc/commands: rmail has limit=x, which is no number of minutes: what asks for it waits.", self.said)
+
+
+class Clocks(Folder):
+    def test_seconds_of_what_a_clock_shows(self) -> None:
+        for zone in "UTC0", "<site>-5:45", "CET-1CEST,M3.5.0,M10.5.0/3", "EST5EDT,M3.2.0,M11.1.0":
+            for moment in NOON, NOON + 183 * 86400, 1000000000:
+                self.assertEqual(moment, clock.seconds(zone, clock.shown(zone, moment)), zone)
+
+    def test_the_clock_of_the_machine(self) -> None:
+        for text, rule in (b"TZif2\n\0\nCET-1CEST,M3.5.0,M10.5.0/3\n", "CET-1CEST,M3.5.0,M10.5.0/3"), (b"TZif2\n\0\n\n", "UTC0"), (b"x\ny\n", "UTC0"), (b"", "UTC0"):
+            self.assertEqual(rule, clock.rule_of_machine(self.put("localtime", text)))
+        self.assertEqual("UTC0", clock.rule_of_machine(f"{self.folder}/nowhere"))
+
+    def test_the_variable_stays(self) -> None:
+        before = os.environ.get("TZ"), time.tzname
+        clock.seconds("EST5EDT,M3.2.0,M11.1.0", "2026-07-01 00:00:00")
+        self.assertEqual(before, (os.environ.get("TZ"), time.tzname))

@@ -1,0 +1,22 @@
+"""Calls of neighbours, and deliveries of jobs, at a site of uuspool.
+
+A command is a function `run(session, words)` of a module here; `cli` runs it. A `Session` is one run
+of a command, and a `Site` is the site that it entered. The spool is asked by `Spool` alone, and every
+program runs by `Processes`, which ends it if the command is stopped. No module keeps a state of its
+own, and no shell reads any word.
+
+From below, each importing only what stands before it (`calls/tests/test_layers.py` checks that):
+
+    errors texts clock values digests options  words, times, and how a command ends
+    files processes                         what is on the disk, and what runs
+    session settings contacts forward journal jobs spool site
+    figures monitor metrics turn copies     what operators watch, and how a site is copied
+    bundle public commands pieces records works  what neighbours send, and what is kept of it
+    seals                                   the keys of neighbours
+    envelope                                what mail of a neighbour begins with
+    letters refusals moves exchange         what becomes of jobs
+    taylor taylorsys wholes errands handover    Taylor UUCP, and the jobs that it has
+    delivery carriers outgoing              how a job is delivered, a neighbour called, and a file queued
+    traffic progress forecast               how much a call carries, and how fast
+    cli, and then the commands
+"""

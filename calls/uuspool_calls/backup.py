@@ -1,0 +1,225 @@
+"""uuspool-backup: copies the site while it works, to a new folder below DIR, and prints its path.
+
+The copy has spool/, the spool's files and what is kept beside them, as they are in one turn; etc/, which is
+/etc/uuspool; the settings; and what is kept of keys elsewhere. It is made as NAME.new, written to the disk, checked,
+and only then renamed, so a copy without that ending is whole. With -k only the newest copies stay.
+
+root or the spool's user runs it. Who runs it alone can enter the copy, because it has jobs and keys. What root copies
+keeps its owners."""
+import contextlib
+import fcntl
+import os
+import re
+import stat
+import time
+from collections.abc import Iterator, Sequence
+
+from . import clock, files, options, settings, turn
+from .copies import Copier, Target
+from .errors import LATER, NOT_SET_UP, USAGE, Failure
+from .processes import Program
+from .session import Session, acting_as
+from .site import find_from_anywhere, has_bytes, owner_of
+from .texts import is_number, one_line
+
+_USAGE = "usage: uuspool-backup [-k COPIES] DIR"
+_NEW = ".new"
+_COPY = re.compile(r"([A-Za-z0-9._-]+)\.([0-9]{8}T[0-9]{6}Z)(?:\.([0-9]+))?\Z")  # of which site, when, and its number in that second
+_LOCKS = re.compile(r".*(\.lock|\.works|\.port|\.waits|\.answer\.[0-9]+)\Z|\..*\.new\Z", re.S)
+_BESIDE = ("calls", "deliver", "refused", "moves", "pieces")  # folders
+_FOLDER = os.O_RDONLY | os.O_DIRECTORY | os.O_CLOEXEC
+_OTHERS_WRITE = 0o022
+_CHECK = "check.toml"  # the settings with which a copy is checked
+_HOME = "/var/lib/uuspool"
+
+
+def run(session: Session, words: Sequence[str]) -> int:
+    """The command."""
+    given, names = options.read(words, "k:", _USAGE)
+    kept = given.get("k", "")
+    if len(names) != 1 or not (kept == "" or is_number(kept) and int(kept)):
+        raise Failure(USAGE, _USAGE)
+    place = os.path.abspath(names[0])
+    found = find_from_anywhere(session)
+    if not has_bytes(found.spool):
+        raise Failure(NOT_SET_UP, f"there is no spool {found.spool}")
+    session.processes.catch_stops()
+    with Place(place) as copies:
+        backup = Backup(session, found, copies)
+        path = backup.make()
+        if kept and not backup.faults:
+            copies.remove_old(found.name, int(kept))
+    session.print(path)
+    for fault in backup.faults:
+        session.say(f"{path}: {fault}")
+    return 1 if backup.faults else 0
+
+
+class Place:
+    """The folder of the copies. Nobody else may write it."""
+
+    def __init__(self, path: str) -> None:
+        self.path = path
+        with contextlib.suppress(FileExistsError):
+            os.mkdir(path, 0o700)
+        self.handle = os.open(path, _FOLDER)
+        seen = os.fstat(self.handle)
+        if seen.st_uid not in (0, os.geteuid()) or seen.st_mode & _OTHERS_WRITE:
+            os.close(self.handle)
+            raise Failure(LATER, f"others may write {path}, or it belongs to another user: chmod go-w {path}, or name another folder")
+
+    def __enter__(self) -> "Place":
+        return self
+
+    def __exit__(self, *error: object) -> None:
+        os.close(self.handle)
+
+    @contextlib.contextmanager
+    def begun(self, name: str) -> Iterator[tuple[str, Target]]:
+        """A new copy. Its name is free, and its folder is locked, so that nobody takes it for one of a killed backup."""
+        for number in range(1, 1000):
+            chosen = f"{name}.{number}" if number > 1 else name
+            if os.path.lexists(f"{self.path}/{chosen}"):
+                continue
+            try:
+                target = Target(f"{chosen}{_NEW}", self.handle)
+            except FileExistsError:
+                continue
+            break
+        else:
+            raise Failure(LATER, f"{self.path} has too many copies of one second")
+        fcntl.flock(target.handle, fcntl.LOCK_EX)
+        try:
+            yield chosen, target
+        except BaseException:
+            self._remove(f"{chosen}{_NEW}")
+            raise
+        finally:
+            target.close()
+
+    def keep(self, name: str) -> None:
+        """A copy that is whole gets its name."""
+        os.rename(f"{name}{_NEW}", name, src_dir_fd=self.handle, dst_dir_fd=self.handle)
+        os.fsync(self.handle)
+
+    def remove_dead(self) -> None:
+        """Removes what killed backups left."""
+        for name in os.listdir(self.handle):
+            if name.endswith(_NEW) and _COPY.match(name.removesuffix(_NEW)) and self._is_dead(name):
+                self._remove(name)
+
+    def _is_dead(self, name: str) -> bool:
+        with contextlib.suppress(OSError), files.opened(name, _FOLDER | os.O_NOFOLLOW, folder=self.handle) as handle:
+            fcntl.flock(handle, fcntl.LOCK_EX | fcntl.LOCK_NB)
+            return True
+        return False
+
+    def remove_old(self, own: str, kept: int) -> None:
+        """Removes the oldest copies of a site, so that so many stay."""
+        found = [match for match in map(_COPY.match, os.listdir(self.handle)) if match and match[1] == own and self._is_folder(match[0])]
+        found.sort(key=lambda match: (match[2], int(match[3] or 1)))
+        for match in found[:-kept]:
+            self._remove(match[0])
+
+    def _is_folder(self, name: str) -> bool:
+        seen = files.look(name, self.handle, follows=False)
+        return seen is not None and stat.S_ISDIR(seen.st_mode)
+
+    def _remove(self, name: str) -> None:
+        import shutil  # (takes long to load)
+
+        shutil.rmtree(name, ignore_errors=True, dir_fd=self.handle)
+
+
+class Backup:
+    """A backup of a site."""
+
+    def __init__(self, session: Session, found: settings.Settings, place: Place) -> None:
+        self._session, self._settings, self._place = session, found, place
+        self._pause = session.processes.pause
+        self._owner = owner_of(found)
+        if self._owner.isdecimal() and os.geteuid() == 0:
+            raise Failure(NOT_SET_UP, f"{found.folder} belongs to user {self._owner}, who has no account")
+        self.faults: list[str] = []  # of the copy
+
+    def make(self) -> str:
+        """Makes a copy, and returns its path."""
+        self._place.remove_dead()
+        name = f"{self._settings.name}.{time.strftime('%Y%m%dT%H%M%SZ', time.gmtime(clock.now()))}"
+        with self._place.begun(name) as (chosen, target):
+            seen = os.stat(self._settings.folder)
+            spool = target.folder("spool", seen)
+            with Copier([seen.st_uid], self._owner) as copier:
+                self._take_spool(spool, copier)
+                self._session.processes.check()
+                copier.finish()
+            self._take_others(target)
+            self.faults += copier.left_out
+            self._session.processes.check()
+            self._check(f"{self._place.path}/{chosen}{_NEW}/spool")
+            target.sync()
+            self._session.processes.check()
+            self._place.keep(chosen)
+        return f"{self._place.path}/{chosen}"
+
+    def _take_spool(self, target: Target, copier: Copier) -> None:
+        """Within one turn, copies the spool's files, and opens those beside it, so that they are of the same moment."""
+        found, name = self._settings, os.path.basename(self._settings.spool)
+        with turn.Turn(found.spool, self._session.setting("UUSPOOL_PATIENCE", 60), self._owner) as its_turn:
+            its_turn.wait_for_it(self._pause)
+            self._expect_no_journal()
+            with its_turn.database(found.spool, self._pause) as spool:
+                target.put(name, spool)
+                self._put(f"{found.spool}-wal", target, f"{name}-wal")
+            copier.take_file(f"{found.spool}-word", target, f"{name}-word")
+            for folder in _BESIDE:
+                if os.path.isdir(f"{found.folder}/{folder}"):
+                    copier.take(f"{found.folder}/{folder}", target.folder(folder), _is_kept)
+        if not os.path.exists(f"{found.spool}-word"):
+            self.faults.append(f"{found.spool}-word is missing, so it has no word: see man uuspool-trouble")
+
+    def _expect_no_journal(self) -> None:
+        journal = f"{self._settings.spool}-journal"
+        if (files.read_bytes(journal) or b"\0")[:1] != b"\0":
+            raise Failure(LATER, f"{journal} was left by sqlite3: open the spool once with sqlite3")
+
+    def _put(self, path: str, target: Target, name: str) -> None:
+        with acting_as(self._owner):
+            handle = turn.opened(path, os.O_RDONLY)
+        with files.closing(handle):
+            target.put(name, handle)
+
+    def _take_others(self, target: Target) -> None:
+        """The settings and keys. They are changed by hand, so they are copied as they are now. (Where the first two are, the
+        spool's user may say.)"""
+        etc, found = os.path.realpath(self._session.etc), self._settings
+        with Copier(owner=self._owner) as copier:
+            copier.take_file(os.path.realpath(found.path), target, "settings.toml")
+            if found.seals and not os.path.realpath(found.seals).startswith(f"{etc}/"):
+                copier.take(found.seals, target.folder("seals"))
+            self._finish(copier)
+        with Copier() as copier:
+            copier.take(etc, target.folder("etc"))
+            home = self._session.environment.get("UUSPOOL_HOME") or _HOME
+            copier.take_file(f"{home}/.ssh/authorized_keys", target, "authorized_keys")
+            self._finish(copier)
+
+    def _finish(self, copier: Copier) -> None:
+        copier.finish()
+        self.faults += copier.left_out
+
+    def _check(self, folder: str) -> None:
+        """Has the program read each row of the copy. A wrong one is in the spool, too, and no reason to have no copy."""
+        name = os.path.basename(self._settings.spool)
+        files.replace(f"{folder}/{_CHECK}", f'name = "{self._settings.name}"\nspool = "{name}"\n'.encode())
+        environment = {key: value for key, value in self._session.environment.items() if key != "UUSPOOL_DIR"}
+        ended = self._session.processes.run(Program([self._session.program, "-c", _CHECK, "status"], folder, environment), joined=True)
+        for made in _CHECK, f"{name}-lock", f"{name}-reserve", "log":
+            files.remove(f"{folder}/{made}")
+        if ended.status:
+            self.faults.append(f"the spool of the copy cannot be opened: {one_line(ended.output)}")
+
+
+def _is_kept(name: str) -> bool:
+    """Whether a file beside the spool says something. Locks don't, nor do files that are being written."""
+    return _LOCKS.match(name) is None

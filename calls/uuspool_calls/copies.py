@@ -1,0 +1,150 @@
+"""Copies of folders by their descriptors: no link is followed, and a copy is on the disk before this ends."""
+import contextlib
+import errno
+import os
+import stat
+from collections.abc import Callable, Collection
+
+from . import files, turn
+from .session import acting_as
+
+_FOLDER = os.O_RDONLY | os.O_DIRECTORY | os.O_NOFOLLOW | os.O_CLOEXEC
+_NEW = os.O_WRONLY | os.O_CREAT | os.O_EXCL | os.O_NOFOLLOW | os.O_CLOEXEC
+_MODE = 0o777
+_SPARE = 64  # descriptors
+
+
+class Target:
+    """A new folder, which is filled. Each folder and file in it is written to the disk by `sync`, and then it becomes
+    like the one of which it is a copy."""
+
+    def __init__(self, name: str, parent: int | None = None) -> None:
+        os.mkdir(name, 0o700, dir_fd=parent)
+        self.handle = os.open(name, _FOLDER, dir_fd=parent)
+        self._parts: list[Target] = []
+        self.like: os.stat_result | None = None
+
+    def folder(self, name: str, like: os.stat_result | None = None) -> "Target":
+        """A new folder in it."""
+        self._parts.append(Target(name, self.handle))
+        self._parts[-1].like = like
+        return self._parts[-1]
+
+    def put(self, name: str, source: int) -> None:
+        """A new file with the bytes, the mode and the time of an open one, and its owner if this is root."""
+        seen = os.fstat(source)
+        with files.opened(name, _NEW, folder=self.handle) as handle:
+            files.copy_all(source, handle)
+            _make_like(handle, seen)
+            os.utime(handle, ns=(seen.st_atime_ns, seen.st_mtime_ns))
+
+    def sync(self) -> None:
+        """Writes everything to the disk."""
+        for part in self._parts:
+            part.sync()
+        for name in os.listdir(self.handle):
+            if stat.S_ISREG(os.stat(name, dir_fd=self.handle, follow_symlinks=False).st_mode):
+                with files.opened(name, os.O_RDONLY | os.O_NOFOLLOW, folder=self.handle) as handle:
+                    os.fsync(handle)
+        if self.like:
+            _make_like(self.handle, self.like)
+        os.fsync(self.handle)
+
+    def close(self) -> None:
+        """Closes the folders."""
+        for part in self._parts:
+            part.close()
+        os.close(self.handle)
+
+
+def _make_like(handle: int, seen: os.stat_result) -> None:
+    if os.geteuid() == 0:
+        os.fchown(handle, seen.st_uid, seen.st_gid)
+    os.fchmod(handle, seen.st_mode & _MODE)
+
+
+class Copier:
+    """Copies files as they are at one moment: those that may be opened are opened then, and their bytes are copied by
+    `finish`. This is for files that are replaced whole, and never changed. For root the owner of their folder opens them,
+    if one is given."""
+
+    def __init__(self, owners: Collection[int] = (), owner: str = "") -> None:
+        import resource  # (one command needs it)
+
+        most = resource.getrlimit(resource.RLIMIT_NOFILE)[1]
+        with contextlib.suppress(OSError, ValueError):
+            resource.setrlimit(resource.RLIMIT_NOFILE, (most, most))
+        self._most = resource.getrlimit(resource.RLIMIT_NOFILE)[0] - _SPARE
+        self._owners, self._owner = owners, owner
+        self._opened: list[tuple[Target, str, int]] = []
+        self.left_out: list[str] = []  # what isn't copied, and why
+
+    def __enter__(self) -> "Copier":
+        return self
+
+    def __exit__(self, *error: object) -> None:
+        for _, _, handle in self._opened:
+            os.close(handle)
+
+    def take(self, path: str, target: Target, wanted: Callable[[str], bool] = lambda name: True) -> None:
+        """Takes the wanted files in a folder, and in the folders below it. A link is copied as a link."""
+        with contextlib.suppress(FileNotFoundError):
+            self._enter(path, None, path, target, wanted)
+
+    def take_file(self, path: str, target: Target, name: str) -> None:
+        """Takes a file, unless it is missing."""
+        with contextlib.suppress(FileNotFoundError):
+            self._open(path, None, target, name, path)
+
+    def _take(self, folder: int, path: str, target: Target, wanted: Callable[[str], bool]) -> None:
+        for name in sorted(os.listdir(folder)):
+            with contextlib.suppress(FileNotFoundError):
+                seen = os.stat(name, dir_fd=folder, follow_symlinks=False)
+                if stat.S_ISDIR(seen.st_mode):
+                    self._enter(name, folder, f"{path}/{name}", target.folder(name), wanted)
+                elif stat.S_ISLNK(seen.st_mode):
+                    os.symlink(os.readlink(name, dir_fd=folder), name, dir_fd=target.handle)
+                elif wanted(name):
+                    self._open(name, folder, target, name, f"{path}/{name}")
+
+    def _enter(self, name: str, folder: int | None, path: str, target: Target, wanted: Callable[[str], bool]) -> None:
+        try:
+            with acting_as(self._owner):
+                opened = files.opened(name, _FOLDER, folder=folder)
+        except OSError as error:
+            self._leave_out(path, error)
+            return
+        with opened as handle:
+            target.like = os.fstat(handle)
+            self._take(handle, path, target, wanted)
+
+    def _leave_out(self, path: str, error: OSError) -> None:
+        """What vanished meanwhile isn't missing in the copy."""
+        if error.errno == errno.ENOENT:
+            raise error
+        self.left_out.append(f"{path}: {error.strerror}")
+
+    def _open(self, name: str, folder: int | None, target: Target, new: str, path: str) -> None:
+        """Opens a file to copy it later, or copies it now if many are open."""
+        try:
+            with acting_as(self._owner):
+                handle = turn.opened(name, os.O_RDONLY, folder)
+        except OSError as error:
+            self._leave_out(path, error)
+            return
+        if self._owners and (owner := os.fstat(handle).st_uid) not in self._owners:
+            os.close(handle)
+            self.left_out.append(f"{path}: belongs to user {owner}")
+        elif handle < self._most:
+            self._opened.append((target, new, handle))
+        else:
+            target.put(new, handle)
+            os.close(handle)
+
+    def finish(self) -> None:
+        """Copies what is open."""
+        while self._opened:
+            target, name, handle = self._opened[-1]
+            target.put(name, handle)
+            os.close(handle)
+            self._opened.pop()

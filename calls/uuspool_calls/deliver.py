@@ -1,0 +1,300 @@
+"""uuspool-deliver: delivers the jobs that wait for this site itself, each on its own, or tries those with
+these numbers now.
+
+One round goes on at a time, for at most some minutes, and the senders take turns in it, so who sends many jobs
+delays no other. The next one waits for no command whose line gives it minutes, and then has fewer places. A job that fails is tried again after 10 minutes, then after twice as long, at most 4 hours. After
+5 days, or if it never can be delivered, it is refused. The status is 75 if a job can't be
+refused now.
+
+A command is run once, unless this is stopped between its end and the spool's note of it. Then it runs again,
+with the same $UUSPOOL_JOB, by which it may know the job."""
+import collections
+import contextlib
+import os
+import time
+from collections.abc import Sequence
+from functools import partial
+
+from . import cli, clock, files, outgoing, pieces, records, refusals, works
+from .delivery import Delivery, Outcome
+from .errors import LATER, USAGE, Delay, Failure, Refusal, SpoolError, spool_needed
+from .jobs import REQUEST, Delivered, Job, Parcel
+from .letters import Mailroom, NotSent
+from .processes import Child, Children, named
+from .refusals import Refuser
+from .session import Session
+from .site import Site, enter
+from .texts import is_number
+
+_USAGE = "usage: uuspool-deliver [NUMBER..]"
+_KILLED = 128  # the least status of a process that a signal ended
+_NEW = 3600  # seconds in which a record's job may have just come
+_LOCK, _WORKS = ".lock", ".works"  # of a job, behind its number
+_MARGIN = 15  # seconds until a command that is ended has ended
+_ROUND = 300  # seconds after which a round begins no more deliveries
+_MOST_FETCHED = 64  # MiB that wait for a neighbour, above which it fetches nothing more
+_MOST_JOBS = 5000  # that wait for it
+
+
+def run(session: Session, words: Sequence[str]) -> int:
+    """The command."""
+    if not all(map(is_number, words)):
+        raise Failure(USAGE, _USAGE)
+    site = enter(session)
+    deliverer = Deliverer(site)
+    session.processes.catch_stops()
+    if words:
+        return max(deliverer.run(session, words), refusals.tell(site))
+    with site.lock("deliver/round.lock") as lock:
+        return _round(site, deliverer, lock) if lock.take() else 0
+
+
+def _round(site: Site, deliverer: "Deliverer", lock: files.Lock) -> int:
+    """Delivers what is due, some jobs at a time, each in a process of its own."""
+    with spool_needed(f"the spool cannot be asked what waits for {site.own}"):
+        waiting = site.spool.waiting(site.own)
+    _clean(site, waiting)
+    ended = _deliver_all(site, deliverer, due(site.folder, waiting, clock.now()), lock)
+    for number, status in ended:
+        if status > _KILLED:
+            deliverer.note_killed(number, status - _KILLED)
+    told = refusals.tell(site)
+    return LATER if any(status for _, status in ended) else told
+
+
+def _refuse_unfinished(site: Site) -> None:
+    """Files that never became whole are refused."""
+    for file in pieces.unfinished(f"{site.folder}/pieces"):
+        about, piece = file.about, file.about.piece
+        why = f"{file.count()} of {piece.total} pieces came, and no other one for {pieces.DAYS} days"
+        try:
+            file.set_aside(f"{site.folder}/refused", why)
+        except OSError as error:
+            site.session.say(f"{file.folder} cannot be kept below {site.folder}/refused: {error.strerror}")
+            continue
+        site.log.note(site.own, about.user, "", "refused-for-good", f"{' '.join(piece.words)}: {why}")
+
+
+def _deliver_all(site: Site, deliverer: "Deliverer", numbers: Sequence[int], lock: files.Lock) -> list[tuple[int, int]]:
+    """Delivers these jobs while the round goes on. Each has the status with which its delivery ended. The next round
+    waits for no command that takes longer than usual."""
+    ends = clock.running() + site.session.setting("UUSPOOL_ROUND_LIMIT", _ROUND)
+    usual = site.session.command_limit + _MARGIN
+    with Children(site.session.processes, max(1, site.session.at_once - _still_working(site.folder))) as children:
+        for begun, number in enumerate(numbers):
+            if clock.running() >= ends or not children.has_place(usual):
+                site.session.say(f"{len(numbers) - begun} jobs wait for the next round")
+                break
+            children.start(partial(_delivery, site.session, deliverer, number), number)
+        children.wait(usual)
+        lock.give_back()
+        children.wait()
+    return children.ended
+
+
+def _still_working(folder: str) -> int:
+    """How many commands of earlier rounds still work."""
+    return sum(works.is_so(f"{folder}/deliver/{name}") for name in files.names_in(f"{folder}/deliver") if name.endswith(_WORKS))
+
+
+def _delivery(session: Session, deliverer: "Deliverer", number: int) -> Child:
+    def work() -> int:
+        named(session.command)
+        session.processes.begin_as_child()
+        return cli.run(session, deliverer.run, [str(number)])
+
+    return Child(work)
+
+
+def due(folder: str, waiting: Sequence[Job], now: int) -> list[int]:
+    """The jobs to try now. Those that failed before come last, because they may take long."""
+    new, again = [], []
+    for job in waiting:
+        tries = records.Tries.read(f"{folder}/deliver", job, now)
+        if not tries.failed:
+            new.append(job)
+        elif not tries.is_later(now):
+            again.append(job)
+    return [job.number for job in (*by_turns(new), *by_turns(again))]
+
+
+def by_turns(jobs: Sequence[Job]) -> list[Job]:
+    """The jobs in an order in which each sender has one before any has its second, and so on."""
+    counts: collections.Counter[str] = collections.Counter()
+    turns = []
+    for job in jobs:
+        turns.append((counts[job.sender], job))
+        counts[job.sender] += 1
+    return [job for _, job in sorted(turns, key=lambda turn: turn[0])]
+
+
+def _clean(site: Site, waiting: Sequence[Job]) -> None:
+    """Removes records of jobs that wait no longer, but not new ones. Forgets the keys of letters and answers
+    about jobs before the first that waits."""
+    numbers, folder = {job.number for job in waiting}, f"{site.folder}/deliver"
+    before = time.time() - _NEW
+    for name in files.names_in(folder):
+        number = name.partition(".")[0]
+        if number.isdecimal() and int(number) not in numbers:
+            with contextlib.suppress(OSError):
+                if os.stat(f"{folder}/{name}").st_mtime < before:
+                    _forget(folder, number)
+    _refuse_unfinished(site)
+    refusals.forget_old(site)
+    if os.path.exists(f"{folder}/keys") and not refusals.has_untold(site):
+        with contextlib.suppress(SpoolError):
+            if jobs := site.spool.waiting():
+                site.spool.ask("forget", "--", site.own, str(min(job.number for job in jobs)))
+                files.remove(f"{folder}/keys")
+
+
+def _forget(folder: str, number: str) -> None:
+    """Removes what is kept of a job, unless a process delivers it: the clock may have jumped since that began."""
+    with files.Lock(f"{folder}/{number}{_LOCK}") as lock:
+        if lock.take() and lock.is_current():
+            for end in "", _WORKS, _LOCK:
+                files.remove(f"{folder}/{number}{end}")
+
+
+class Deliverer:
+    """Delivers the jobs of a site that has a spool."""
+
+    def __init__(self, site: Site) -> None:
+        self._site, self._own = site, site.own
+        self._folder = f"{site.folder}/deliver"
+        folders, environment = (site.folder, f"{site.folder}/refused"), {**site.environment, "UUSPOOL_HERE": self._own}
+        self._delivery = Delivery(site.session, self._own, folders, environment, hand_on=self._hand_on)
+
+    def run(self, session: Session, words: Sequence[str]) -> int:
+        """Tries the jobs with these numbers."""
+        return max(self.deliver(int(number)) for number in words)
+
+    def deliver(self, number: int) -> int:
+        """Tries a job, unless it is gone, or another process delivers it. One that hangs delays no
+        round."""
+        with self._site.lock(f"deliver/{number}{_LOCK}") as lock:
+            parcel = self._site.spool.show(number) if lock.take() and lock.is_current() else None
+            if parcel is None:
+                return 0
+            if parcel.job.system != self._own:
+                raise Failure(USAGE, f"job {number} waits for {parcel.job.system}, not for this site")
+            return self._try(parcel)
+
+    def _try(self, parcel: Parcel) -> int:
+        now = clock.now()
+        tries = records.Tries.read(self._folder, parcel.job, now)
+        try:
+            with files.memory_file(parcel.data) as content:
+                outcome = self._hand_over(self._delivered(parcel.job, content), parcel.job)
+        except Refusal as refusal:
+            return self.give_up(parcel, str(refusal))
+        except Delay as delay:
+            return self._fail(parcel, tries, str(delay), now)
+        return self._finish(parcel.job, outcome)
+
+    def _delivered(self, job: Job, content: int) -> Delivered:
+        name = f"{self._own}!{job.number}!{job.day}.{job.hour}"
+        return Delivered(job.kind, job.words, content, job.sender, job.user, name, job.grade, f"{self._folder}/{job.number}{_WORKS}")
+
+    def note_killed(self, number: int, signal: int) -> None:
+        """A delivery that was killed, perhaps since memory ran out, has failed for now."""
+        with self._site.lock(f"deliver/{number}{_LOCK}") as lock:
+            parcel = self._site.spool.show(number) if lock.take() and lock.is_current() else None
+            if parcel:
+                now = clock.now()
+                tries = records.Tries.read(self._folder, parcel.job, now)
+                self._fail(parcel, tries, f"its delivery at {self._own} was killed by signal {signal}", now)
+
+    def _hand_over(self, delivered: Delivered, job: Job) -> Outcome:
+        """Delivers it."""
+        if job.kind == "request" or (job.kind == "exec" and job.words[0] == REQUEST):
+            self._send_file(delivered, job.words[job.kind == "exec" :])
+            return Outcome(job.what)
+        if works.is_so(delivered.working):
+            raise Delay(f"{job.words[0]} at {self._own} still works on it, though what began it was ended")
+        return self._delivery.deliver(delivered)
+
+    def _send_file(self, job: Delivered, words: Sequence[str]) -> None:
+        """A file that the sender asked for goes back as a job of who asked, or in pieces."""
+        if not job.sender or len(words) < 2:
+            raise Refusal(f"a request for {self._own} itself, or without two names, asks for nothing")
+        with self._delivery.public_of(job.sender).opened(words[0]) as content:
+            self._expect_room(job.sender, words[0], os.fstat(content).st_size)
+            self._queue(job.sender, job._replace(kind="send", words=tuple(words), content=content), "request")
+
+    def _expect_room(self, sender: str, path: str, size: int) -> None:
+        """A request is short, and what it fetches is long. So more of it waits until some of it went. (A file of any size may
+        go if nothing waits.)"""
+        most = self._site.session.setting("UUSPOOL_FETCHED_MEGABYTES", _MOST_FETCHED)
+        try:
+            there = self._site.spool.queued(sender)
+        except SpoolError as error:
+            raise Delay(f"{path} cannot be sent from {self._own} now: {error}") from None
+        if there.jobs and (there.bytes + size > most << 20 or there.jobs >= _MOST_JOBS):
+            raise Delay(f"{there.jobs} jobs of {there.bytes} bytes wait for {sender}, so it gets {path} once some of them went")
+
+    def _hand_on(self, system: str, job: Delivered) -> None:
+        self._queue(system, job, "onward")
+
+    def _queue(self, system: str, job: Delivered, why: str) -> None:
+        """Queues for a neighbour what a job brought or asked for, once."""
+        key = f"{self._own}!{job.name.split('!')[1]}!{why}"
+        what = outgoing.Parcelled(system, job.user, job.grade, key, outgoing.mark_of(job.name), (job.kind, *job.words))
+        try:
+            outgoing.queue(self._site, what, job.content)
+        except SpoolError as error:
+            # (Before a stop it was queued, and the file has changed since.)
+            if error.status == 1 and str(error).endswith("Differs"):
+                return
+            if error.is_final:
+                raise Refusal(f"{job.words[0]} cannot be sent from {self._own}: {error}") from None
+            raise Delay(f"{job.words[0]} cannot be sent from {self._own} now: {error}") from None
+
+    def give_up(self, parcel: Parcel, why: str) -> int:
+        """Refuses a job, and if it is a piece, its file as far as it came. If that can't be now it waits, and the jobs
+        after it are still tried."""
+        try:
+            with files.memory_file(parcel.data) as content:
+                is_kept = self._delivery.set_aside(self._delivered(parcel.job, content), why)
+        except (OSError, Delay) as error:
+            self._site.session.say(f"job {parcel.job.number} cannot be refused now, and waits: {error}")
+            return LATER
+        if not Refuser(self._site).refuse(parcel, why, is_kept):
+            return LATER
+        records.forget(self._folder, parcel.job.number)
+        return 0
+
+    def _fail(self, parcel: Parcel, tries: records.Tries, why: str, now: int) -> int:
+        if tries.is_old(now):
+            return self.give_up(parcel, f"it could not be delivered for {records.DAYS} days: {why}")
+        return self._try_later(parcel.job, tries.after_failure(why, now))
+
+    def _try_later(self, job: Job, tries: records.Tries) -> int:
+        with self._site.writing("deliver"):
+            tries.write(self._folder, job.number)
+        self._site.log.note(self._own, job.user, job.number, "waits", tries.why)
+        return 0
+
+    def _finish(self, job: Job, outcome: Outcome) -> int:
+        self._tell(job, outcome)
+        with spool_needed(f"job {job.number} is delivered, and that cannot be noted"):
+            self._site.spool.done(self._own, job.number)
+        self._site.log.note(self._own, job.user, job.number, outcome.how, outcome.what)
+        records.forget(self._folder, job.number)
+        files.remove(f"{self._folder}/{job.number}{_WORKS}")
+        if outcome.is_last:
+            self._delivery.forget(self._delivered(job, -1))
+        return 0
+
+    def _tell(self, job: Job, outcome: Outcome) -> None:
+        """The letters that the sender of a file asked for. (The second may come twice after a stop.)"""
+        mailroom, own, to = Mailroom(self._site), self._own, outcome.wishes.notify
+        place = self._delivery.public_of(job.sender).place
+        try:
+            if outcome.wishes.mail and not job.is_letter:
+                mailroom.send_word(job.user, f"came: {outcome.what}", f"Your file came to {own}: {outcome.what}.", f"{own}!{job.number}!came")
+            if to:
+                sentence = f"A file of {job.user} came: {outcome.what}. It is below {place}."
+                mailroom.send_word(to, f"a file from {job.user}", sentence)
+        except NotSent as error:
+            raise Failure(LATER, f"job {job.number} is delivered, and {to or job.user} cannot be told: {error}") from None

@@ -1,0 +1,188 @@
+"""How one job is delivered at this site. Each word of a stranger goes to its program as one word."""
+import contextlib
+from collections.abc import Callable, Iterator, Mapping, Sequence
+from functools import partial
+
+from . import commands, envelope, forward, public, works
+from .errors import Delay, Refusal
+from .jobs import Delivered, Wishes
+from .pieces import COMMAND, File, Piece, Pieces, cannot_be_kept
+from .processes import Program
+from .session import Session
+from .texts import is_name, lines_of, printable
+from .values import NamedTuple
+
+_MOST_SHOWN = 200  # bytes of what a command prints
+_KILLED = 137
+_MAIL = "rmail"
+
+
+class Outcome(NamedTuple):
+    """What became of a job."""
+
+    what: str  # as the log has it
+    how: str = "delivered"
+    is_last: bool = False  # of the pieces of a file, which is forgotten once the spool knows
+    wishes: Wishes = Wishes()
+
+
+HandOn = Callable[[str, Delivered], None]  # queues a command for a system
+
+
+class Delivery:
+    """Delivers jobs at a site, from the folder in which it works. What is refused of files that come in pieces goes to
+    another one. Mail that was too large for the spool to hand on is handed on here."""
+
+    def __init__(self, session: Session, own: str, folders: tuple[str, str], environment: Mapping[str, str], hand_on: HandOn | None = None) -> None:
+        self._session, self._own, self._environment = session, own, environment
+        self._folder, self._refused = folders
+        self._hand_on = hand_on
+        self._limit = session.command_limit
+
+    def deliver(self, job: Delivered) -> Outcome:
+        """Delivers a job. Refusal if it never can be delivered, Delay if it can't be now."""
+        self._expect_allowed(job)
+        if job.words[0] == COMMAND and job.kind == "exec":
+            return self._take_piece(job)
+        if job.kind == "exec":
+            self._run(job)
+            return Outcome(job.what)
+        put = self.public_of(job.sender).put(job.words[1], job.content)
+        return Outcome(job.what + _other(job.words[1], put), wishes=Wishes.read(job.words[2:]))
+
+    def _expect_allowed(self, job: Delivered) -> None:
+        """Refusal of what no bytes can change. So a file is refused with its first piece."""
+        if job.sender and not is_name(job.sender):
+            raise Refusal(f"{job.sender}, from which it came, is no name of a neighbour")
+        if job.kind == "send" and len(job.words) >= 2:
+            public.expect_inside(job.words[1], self._own)
+            if notify := Wishes.read(job.words[2:]).notify:
+                self._expect_forwarded(job.sender, [notify])
+        elif job.kind != "exec" or not job.words:
+            raise Refusal(f"{self._own} takes no job of the kind {job.kind}")
+        elif job.words[0] == COMMAND:
+            kind, *words = _piece(job).words
+            if kind == "exec" and words[0] == COMMAND:
+                raise Refusal("a piece is no piece of another file")
+            self._expect_allowed(job._replace(kind=kind, words=tuple(words)))
+        else:
+            self._command(job)
+
+    def _expect_forwarded(self, sender: str, addresses: Sequence[str]) -> None:
+        if sender:
+            forward.expect_allowed(f"{self._session.etc}/forward", self._own, sender, addresses)
+
+    def public_of(self, sender: str) -> public.Public:
+        """The public folder for a sender."""
+        common = self._environment.get("UUSPOOL_PUBLIC", "")
+        return public.find(common, f"{self._session.etc}/public", sender, self._own)
+
+    def _pieces_of(self, job: Delivered) -> Pieces:
+        folder = f"{self._folder}/pieces/{job.sender or self._own}"
+        return Pieces(folder, self._refused, self._session.processes.pause, self._limit)
+
+    def _held(self, job: Delivered) -> contextlib.AbstractContextManager[File]:
+        """The file of which the job is a piece."""
+        return self._pieces_of(job).held(_piece(job), job.user, job.name)
+
+    def forget(self, job: Delivered) -> None:
+        """Forgets the file that was delivered with this piece."""
+        with self._held(job) as file:
+            if file.about.came == job.name:
+                file.forget()
+
+    def _take_piece(self, job: Delivered) -> Outcome:
+        """Keeps a piece. With the last one the whole is delivered as a job of its own, once, even after a stop."""
+        piece = _piece(job)
+        kind, *words = piece.words
+        whole = job._replace(kind=kind, words=tuple(words))
+        with self._held(job) as file:
+            if file.about.came == job.name:
+                return Outcome(file.about.what, is_last=True, wishes=Wishes.read(words[2:] if kind == "send" else ()))
+            if file.about.came:
+                return Outcome(f"{piece.place} of {whole.what}", "came-before")
+            try:
+                file.take(piece, job.content)
+            except OSError as error:
+                raise cannot_be_kept(piece, self._folder, error) from None
+            if file.is_refused or not file.is_whole():
+                return Outcome(f"{piece.place} of {whole.what}", "refused" if file.is_refused else "kept")
+            with file.opened() as content:
+                outcome = self.deliver(whole._replace(content=content))
+            file.note_came(job.name, outcome.what)
+            return outcome._replace(is_last=True)
+
+    def set_aside(self, job: Delivered, why: str) -> bool:
+        """Refuses the file of which a job is a piece, as far as it came. Whether it is one."""
+        if job.kind != "exec" or Piece.read(job.words) is None:
+            return False
+        with self._held(job) as file:
+            if file.about.came:
+                return True
+            with contextlib.suppress(Refusal, Delay, OSError):
+                file.take(_piece(job), job.content)
+            if not file.is_refused:
+                file.set_aside(self._refused, why)
+        return True
+
+    def _command(self, job: Delivered) -> commands.Command:
+        name, *words = job.words
+        path = f"{self._session.etc}/commands"
+        command = commands.find(path, name, self._own)
+        command.expect_allowed(self._own, job.sender, words, path)
+        if name == _MAIL:
+            self._expect_forwarded(job.sender, words)
+        return command
+
+    def _run(self, job: Delivered) -> None:
+        name, *words = job.words
+        command = self._command(job)
+        if self._hand_on and job.sender and name == _MAIL and (hop := forward.next_hop(f"{self._session.etc}/forward", job.sender, words)):
+            with _given(job, self._folder) as content:
+                rest = (word.removeprefix(f"{hop}!") for word in words)
+                self._hand_on(hop, job._replace(words=(name, *rest), content=content))
+            return
+        environment = {**self._environment, **job.environment()}
+        path = f"{self._session.etc}/commands"
+        limit = command.seconds(self._limit, path)
+        first = partial(works.note, job.working) if job.working else None
+        program = Program(command.line(words), self._folder, environment, limit, _MOST_SHOWN, first=first)
+        with _given(job, self._folder) as content:
+            ended = self._session.processes.run(program, content, joined=True)
+        if ended.status:
+            line = printable((lines_of(ended.output) or [b""])[0])[:_MOST_SHOWN]
+            self._explain(ended.status, name, limit, f"{path}: {command.program}", f": {line}" if line else "")
+
+    def _explain(self, status: int, name: str, limit: int, program: str, said: str) -> None:
+        own = self._own
+        if 64 <= status <= 69:
+            raise Refusal(f"{name} at {own} refused it with status {status}{said}")
+        if status == 124:
+            raise Delay(f"{name} at {own} did not end within {limit} seconds")
+        if status == _KILLED:
+            raise Delay(f"{name} at {own} was killed, or did not end within {limit} seconds")
+        if status in (126, 127):
+            raise Delay(f"{program} cannot be run at {own}")
+        raise Delay(f"{name} at {own} failed with status {status}{said}")
+
+
+def _piece(job: Delivered) -> Piece:
+    """The piece that a job is."""
+    piece = Piece.read(job.words)
+    if piece is None:
+        raise Refusal(f"it is no piece of a file: {' '.join(job.words)[:200]}")
+    return piece
+
+
+@contextlib.contextmanager
+def _given(job: Delivered, folder: str) -> Iterator[int]:
+    """The open file that a command gets: the job's bytes, and before mail of a neighbour its envelope."""
+    if job.sender and job.words[0] == _MAIL:
+        with envelope.signed(job.content, job.sender, job.user, folder) as content:
+            yield content
+    else:
+        yield job.content
+
+
+def _other(path: str, put: str) -> str:
+    return f", as {put}" if put not in ("", path) else ""

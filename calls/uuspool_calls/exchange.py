@@ -1,0 +1,203 @@
+"""What both ends of a call do with the other's bundle. What few calls need is imported late, since a start takes long.
+
+A line of the program that would do nothing isn't run, and two of which the log would say nothing are one batch, since
+each program takes time."""
+from collections.abc import Sequence
+from contextlib import suppress
+
+from . import bundle, files
+from .errors import LATER, Failure, SpoolError
+from .site import Site
+from .spool import Line, Queued, Refused, Settled, Unpacked
+from .texts import one_line, plain
+
+_MOST_DOUBLINGS = 10
+_MOST_WAITING = 5000  # jobs of a neighbour that wait here, above which no more are taken
+
+
+class NotTaken(Exception):
+    """A text isn't a bundle for this site, or the spool fails."""
+
+
+class Taken:
+    """What came of a bundle."""
+
+    def __init__(self, settled: Settled, unpacked: Unpacked, reply: bytes = b"") -> None:
+        self.settled, self.unpacked = settled, unpacked
+        self.reply = reply  # to a bundle without jobs, if it was made at once
+        self.requeued = 0
+        self.faults: list[str] = []  # at the neighbour, the last of which counts
+        self.own_fault = ""  # at this site
+
+    @property
+    def moves_jobs(self) -> bool:
+        """Whether the neighbour has to hear what is here, or refused here, now."""
+        return self.unpacked.jobs + self.unpacked.unwanted > 0
+
+    @property
+    def makes_room(self) -> bool:
+        """Whether more of our jobs may go now."""
+        return len(self.settled.done) + self.requeued > 0
+
+
+def finish_moves(site: Site, neighbour: str) -> bool:
+    """Finishes the moves of jobs from and to a neighbour. Whether some were left."""
+    if not files.names_in(f"{site.folder}/moves"):
+        return False
+    from . import moves
+
+    moves.finish_all(site, neighbour)
+    return True
+
+
+def expect_size(neighbour: str, text: bytes) -> None:
+    """NotTaken if more came than a bundle can have."""
+    if len(text) > bundle.MOST:
+        raise NotTaken(f"more than {bundle.MOST} bytes came from {neighbour}, so it is no bundle")
+
+
+class Neighbour:
+    """A neighbour, of which bundles are taken, and for which ours are made, each of so many bytes at most, if that isn't 0.
+    Mail from it is handed on to some systems."""
+
+    def __init__(self, site: Site, name: str, onward: Sequence[str], most: int = 0) -> None:
+        self._site, self._name, self._onward = site, name, list(onward)
+        self._bound = bundle.bound(most)
+        self._waits = f"{site.folder}/calls/{name}.waits"
+        self._bundles_with_stale = 0
+
+    # ---- making bundles
+
+    def pack(self, options: Sequence[str]) -> bytes:
+        """The first bundle of a call, which has everything that there is to say."""
+        return self._made(["pack", *self._bound, *options, "--", self._name])
+
+    def answer(self, text: bytes, options: Sequence[str] = ()) -> bytes:
+        """The bundle that answers the neighbour's. It says what became of each job in that."""
+        return self._made(["answer", *self._bound, *options, "--", self._name, *self._onward], text)
+
+    def reply(self, text: bytes) -> bytes:
+        """The bundle that answers a call."""
+        return self._made(*self._reply(text))
+
+    def _reply(self, text: bytes) -> tuple[list[str], bytes]:
+        """The line for it, and its input. If the caller's has no jobs, ours says all that is here: a call before may have
+        broken, so that the caller doesn't know."""
+        if not bundle.has_jobs(text) and (grade := bundle.grade_wanted(text)):
+            return ["pack", *self._bound, f"-g{grade}", "--", self._name], b""
+        return ["answer", *self._bound, "--", self._name, *self._onward], text
+
+    def _made(self, words: Sequence[str], given: bytes = b"") -> bytes:
+        if bundle.has_jobs(given) and (said := self._batch((words, given), (["queues"], b""))):
+            self._note_waiting(said[1])
+            return said[0]
+        ended = self._site.spool.run(words, given)
+        if ended.status == 0:
+            return ended.output
+        why = plain(one_line(ended.errors).encode()) or f"uuspool ended with status {ended.status}"
+        if not ended.errors and ended.output.startswith(b"no system"):
+            why = f"no system {self._name} is defined at {self._site.own}: {self._site.etc}/sys and uuspool-sys define one"
+        raise Failure(LATER, f"there is no bundle for {self._name}: {why}")
+
+    def _batch(self, *lines: Line) -> list[bytes] | None:
+        """The answers to lines that one process does, if it can. (A batch has no sealed bundles.)"""
+        return self._site.spool.batch(self._site.word(), *lines) if not self._site.settings.seals else None
+
+    # ---- taking bundles
+
+    def take(self, text: bytes, replies: bool = False) -> Taken:
+        """Removes our jobs that a bundle says are there, and then queues its jobs here. On a full disk the
+        first makes room for the second. Then it handles what the neighbour refuses."""
+        try:
+            settled = self._site.spool.settle(self._name, text) if bundle.has_line(text, b"has", b"no") else Settled((), ())
+            taken = Taken(settled, *self._unpack(text, replies and not settled.refused))
+        except SpoolError as error:
+            raise NotTaken(self._explained(str(error), text)) from None
+        if "NoSystem" in taken.unpacked.refusals:
+            others = f", and {' '.join(self._onward)}" if self._onward else ""
+            taken.own_fault = f"the sys file here has to define {self._site.own}, this site's own name{others}"
+        self._heed_refusals(taken)
+        return taken
+
+    def _unpack(self, text: bytes, replies: bool) -> tuple[Unpacked, bytes]:
+        """Queues the jobs of a bundle. If it has none, our reply may be made at once."""
+        if bundle.has_line(text, b"job"):
+            self._expect_room()
+        elif replies and (said := self._batch((["unpack", "--", self._name, *self._onward], text), self._reply(text))):
+            return Unpacked.read(said[0]), said[1]
+        return self._site.spool.unpack(self._name, self._onward, text), b""
+
+    def _expect_room(self) -> None:
+        """A neighbour whose jobs wait here in great number brings no more, until some are delivered or gone. (If few jobs
+        waited in all after its last bundle, its own needn't be counted.)"""
+        most = self._site.session.setting("UUSPOOL_MOST_WAITING", _MOST_WAITING)
+        known = files.read_bytes(self._waits)
+        if known is not None and not (known.isdigit() and int(known) < most):
+            count = sum(job.sender == self._name for job in self._site.spool.waiting())
+            if count >= most:
+                raise NotTaken(f"{count} jobs of {self._name} wait at {self._site.own}, so it takes more later")
+        files.touch_if_possible(self._waits)
+
+    def _note_waiting(self, queues: bytes) -> None:
+        """Keeps how many jobs wait after a bundle. Nothing is there from its unpacking on, and so if a stop comes."""
+        with suppress(OSError), open(self._waits, "wb") as file:
+            file.write(b"%d" % Queued.read(queues.decode()).jobs)
+
+    def _explained(self, said: str, text: bytes) -> str:
+        """Why a text wasn't taken, as a sentence."""
+        if "NoBundle" in said:
+            return f"no bundle came, but: {plain(text)}"
+        if "OtherSender" in said:
+            return f"another site answers, not {self._name}: {plain(text)}"
+        if "OtherSite" in said:
+            return f"this bundle of {self._name} is for another site: {plain(text)}"
+        return plain(said.encode())
+
+    def _heed_refusals(self, taken: Taken) -> None:
+        """Handles the jobs that the neighbour's spool refuses. Under its number and mark it never takes
+        such a job again, so the job gets another number. If this site's spool was put back or got
+        another word, the job may have come before, and then comes twice."""
+        passed = False
+        for refused in taken.settled.refused:
+            if refused.reason in ("Differs", "Stale"):
+                times = 1
+                if refused.reason == "Stale" and not passed:
+                    times, passed = self._numbers_to_pass(), True
+                self._requeue(taken, refused, times)
+            elif refused.reason == "TooLarge":
+                self._refuse(refused.number)
+            elif refused.reason == "NoSystem":
+                taken.faults.append(f"the sys file of {self._name} has to define {self._name}, its own name")
+            else:
+                taken.faults.append(f"the spool of {self._name} refuses job {refused.number}: {refused.reason}")
+
+    def _refuse(self, number: int) -> None:
+        from .refusals import Refuser, tell
+
+        parcel = self._site.spool.show(number)
+        if parcel and Refuser(self._site).refuse(parcel, f"it is too large for {self._name}"):
+            tell(self._site)
+
+    def _numbers_to_pass(self) -> int:
+        """The neighbour doesn't say up to which number it forgot all, so each bundle of a call that says
+        Stale passes twice as many numbers as the one before, by its first such job."""
+        self._bundles_with_stale += 1
+        return 1 << min(self._bundles_with_stale - 1, _MOST_DOUBLINGS)
+
+    def _requeue(self, taken: Taken, refused: Refused, times: int) -> None:
+        from .refusals import NotRemoved, requeue
+
+        number, user, said = refused.number, "", ""
+        try:
+            for _ in range(times):
+                if not (parcel := self._site.spool.show(number)):
+                    break  # (somebody removed it meanwhile)
+                said, user = requeue(self._site, parcel, self._name), parcel.job.user
+                number = int(said.split()[1])
+        except (SpoolError, NotRemoved) as error:
+            taken.faults.append(f"{self._name} refuses job {number} ({refused.reason}), and it cannot be queued anew: {error}")
+            return
+        if said:
+            taken.requeued += 1
+            why = f"as {said}, since {self._name} has another job of this number ({refused.reason})"
+            self._site.log.note(self._name, user, refused.number, "requeued", why)

@@ -1,0 +1,86 @@
+"""What an operator watches: what waits for each neighbour and for this site, how calls went, and what room is left."""
+import os
+from collections.abc import Callable
+
+from . import clock, files
+from .contacts import Contacts
+from .errors import LATER, Failure
+from .processes import Ended
+from .settings import Settings
+from .site import ROUND
+from .texts import one_line
+from .values import NamedTuple
+
+_UNTOLD = ".untold"
+_Ask = Callable[..., Ended]  # a line of the program, as the spool's user
+
+
+class Neighbour(NamedTuple):
+    """A system. Times are seconds since 1970, 0 if there is none."""
+
+    name: str
+    jobs: int = 0  # that wait for it
+    size: int = 0  # their bytes
+    oldest: int = 0  # when the oldest was queued
+    failed: int = 0  # calls in a row
+    called: int = 0  # when the last call ended
+    free: int = 0  # until when it is left alone after a call
+    why: str = ""  # the last call failed
+    held: bool = False
+
+
+class Figures(NamedTuple):
+    """A site."""
+
+    own: str
+    now: int
+    neighbours: tuple[Neighbour, ...]  # and the site itself
+    delayed: int = 0  # jobs for this site that could not be delivered yet
+    refused: int = 0  # jobs, and files that came in pieces, that are kept below refused/
+    untold: int = 0  # of these, those whose users were not told yet
+    spool: int = 0  # bytes of the spool's files
+    room: int = 0  # bytes that are free on its disk
+    round: int = 0  # when uuspool-night made its last round
+
+
+def gather(found: Settings, ask: _Ask) -> Figures:
+    """The figures of a site."""
+    status, queues = _lines(ask, "status"), _lines(ask, "queues")
+    contacts = Contacts(found.folder)
+    neighbours = {words[0]: _called(words, found.zone, contacts) for words in status}
+    for name, jobs, size, _, *moment in queues:
+        oldest = clock.seconds(found.zone, " ".join(moment))
+        neighbours[name] = neighbours.get(name, Neighbour(name))._replace(jobs=int(jobs), size=int(size), oldest=oldest)
+    kept = [name for name in files.names_in(f"{found.folder}/refused") if name[0] != "." and not name.endswith(".warned")]
+    return Figures(
+        found.name,
+        clock.now(),
+        tuple(neighbours[name] for name in sorted(neighbours)),
+        delayed=sum(name.isdecimal() for name in files.names_in(f"{found.folder}/deliver")),
+        refused=len(kept),
+        untold=sum(name.endswith(_UNTOLD) for name in kept),
+        spool=sum(its.st_size for end in ("", "-wal") if (its := files.look(f"{found.spool}{end}"))),
+        room=_room(found.folder),
+        round=int(its.st_mtime) if (its := files.look(f"{found.folder}/{ROUND}")) else 0,
+    )
+
+
+def _lines(ask: _Ask, subcommand: str) -> list[list[str]]:
+    ended = ask("uuspool", subcommand, joined=True)
+    if ended.status:
+        raise Failure(LATER, f"the spool cannot be asked: {one_line(ended.output)}")
+    return [line.split(" ") for line in ended.output.decode().splitlines()]
+
+
+def _called(words: list[str], zone: str, contacts: Contacts) -> Neighbour:
+    """What a line of `status` says: system, failed calls, wait, how the last call ended, and when; if it failed, why."""
+    name, failed, wait, how, *rest = words
+    ended = clock.seconds(zone, " ".join(rest[:2])) if how != "never" else 0
+    known = contacts.find(name)
+    why = " ".join(rest[2:]) if how == "failed" else ""
+    return Neighbour(name, failed=int(failed), called=max(ended, known.called), free=ended + int(wait), why=why, held=known.held)
+
+
+def _room(folder: str) -> int:
+    seen = os.statvfs(folder)
+    return seen.f_bavail * seen.f_frsize

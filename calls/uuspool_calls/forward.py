@@ -1,0 +1,67 @@
+"""Where mail of neighbours may go: to recipients of this site, and elsewhere only as /etc/uuspool/forward says.
+
+A line has a neighbour, and the systems to which its mail is handed on. A word `@DOMAIN` is a domain of mail to which
+this site's mailer may carry it, and `*` leaves all of it to the mailer. On a line of this site's own name, `@DOMAIN` is
+a domain of this site."""
+import os
+from collections.abc import Sequence
+
+from .errors import Refusal
+from .files import read_bytes
+from .values import NamedTuple
+
+_MAILNAME = "/etc/mailname"  # Debian's name of the domain of this machine's mail
+_USER = r"\w[\w.+=&'~#$^{}-]*"  # without signs by which a mailer finds another host, a file or a program
+_AT_DOMAIN = rf"{_USER}@([A-Za-z0-9.-]+)"
+_PATH = rf"([A-Za-z0-9._-]+)!([A-Za-z0-9._-]+!)*{_USER}"
+
+
+class Forward(NamedTuple):
+    """What the file says about a neighbour."""
+
+    systems: tuple[str, ...] = ()
+    domains: frozenset[str] = frozenset()
+    is_all: bool = False
+
+
+def read(path: str, neighbour: str) -> Forward:
+    """What the first line of a neighbour says."""
+    for line in (read_bytes(path) or b"").decode(errors="replace").splitlines():
+        if (words := line.split())[:1] == [neighbour]:
+            return _said(words[1:])
+    return Forward()
+
+
+def _said(words: Sequence[str]) -> Forward:
+    systems = tuple(word for word in words if word != "*" and not word.startswith("@"))
+    return Forward(systems, frozenset(word[1:].lower() for word in words if word.startswith("@")), "*" in words)
+
+
+def expect_allowed(path: str, own: str, neighbour: str, addresses: Sequence[str]) -> None:
+    """Refusal unless this site takes a neighbour's mail for each of these addresses."""
+    forward = read(path, neighbour)
+    domains = forward.domains | _own_domains(path, own)
+    for address in addresses:
+        if not (forward.is_all or _is_allowed(address.removeprefix(f"{own}!"), forward.systems, domains)):
+            raise Refusal(f"{own} takes no mail of {neighbour} for {address}, which is no user of {own}: {path} says what is handed on")
+
+
+def next_hop(path: str, neighbour: str, addresses: Sequence[str]) -> str:
+    """The system to which mail of a neighbour is handed on, as all its addresses begin with it, or nothing."""
+    hops = {address.partition("!")[0] if "!" in address else "" for address in addresses}
+    return next(iter(hops)) if len(hops) == 1 and hops <= set(read(path, neighbour).systems) else ""
+
+
+def _own_domains(path: str, own: str) -> frozenset[str]:
+    mailname = (read_bytes(_MAILNAME) or b"").decode(errors="replace").strip()
+    return read(path, own).domains | {it.lower() for it in (own, mailname, os.uname().nodename) if it}
+
+
+def _is_allowed(address: str, systems: Sequence[str], domains: frozenset[str]) -> bool:
+    import re  # (loaded late, since only deliveries of mail need it)
+
+    if hop := re.fullmatch(_PATH, address):
+        return hop[1] in systems
+    if found := re.fullmatch(_AT_DOMAIN, address):
+        return found[1].lower() in domains
+    return re.fullmatch(_USER, address) is not None

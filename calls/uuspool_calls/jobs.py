@@ -1,0 +1,105 @@
+"""Jobs that wait in the spool."""
+from collections.abc import Sequence
+
+from .errors import Refusal
+from .values import NamedTuple
+
+REQUEST = "uuspool-request"  # FROM TO [-m] [-nUSER]: a request with wishes
+
+class Job(NamedTuple):
+    """A line of `list`."""
+
+    number: int
+    system: str
+    user: str
+    grade: str
+    day: str
+    hour: str
+    size: int
+    kind: str
+    words: tuple[str, ...]
+    line: str
+
+    @staticmethod
+    def read(line: str) -> "Job":
+        """The job of a line."""
+        number, system, user, grade, day, hour, size, kind, *words = line.split(" ")
+        return Job(int(number), system, user, grade, day, hour, int(size), kind, tuple(words), line)
+
+    @property
+    def what(self) -> str:
+        """What is to be done."""
+        return " ".join((self.kind, *self.words))
+
+    @property
+    def sender(self) -> str:
+        """The neighbour that it came from, or nothing."""
+        return self.user.partition("!")[0] if "!" in self.user else ""
+
+    @property
+    def is_letter(self) -> bool:
+        """Whether it is a letter of a site, about which nobody gets a letter."""
+        return self.user.endswith("MAILER-DAEMON")
+
+
+class Wishes(NamedTuple):
+    """What the sender of a file asks for besides: a letter when it came, and one for a user here."""
+
+    mail: bool = False
+    notify: str = ""
+
+    @staticmethod
+    def read(words: Sequence[str]) -> "Wishes":
+        """What the words after a file's two names ask for."""
+        wishes = Wishes()
+        for word in words:
+            if word == "-m":
+                wishes = wishes._replace(mail=True)
+            elif word.startswith("-n") and len(word) > 2:
+                wishes = wishes._replace(notify=word[2:])
+            else:
+                raise Refusal(f"a file has no option {word}")
+        return wishes
+
+
+class Parcel(NamedTuple):
+    """A job with its bytes, and the text that `show` printed."""
+
+    job: Job
+    text: bytes
+
+    @staticmethod
+    def read(text: bytes) -> "Parcel":
+        """The job in an output of `show`. ValueError if it isn't whole."""
+        line, _, data = text.partition(b"\n")
+        parcel = Parcel(Job.read(line.decode()), text)
+        if parcel.job.kind != "request" and len(data) != parcel.job.size:
+            raise ValueError(f"{len(data)} of {parcel.job.size} bytes")
+        return parcel
+
+    @property
+    def data(self) -> bytes:
+        """Its bytes."""
+        return self.text.partition(b"\n")[2]
+
+
+class Delivered(NamedTuple):
+    """A job as its delivery needs it: its kind and words, the open file of its bytes, and who sent it."""
+
+    kind: str
+    words: tuple[str, ...]
+    content: int
+    sender: str  # the neighbour that it came from, or nothing
+    user: str
+    name: str  # the same if it comes again
+    grade: str = "N"
+    working: str = ""  # the file that says which process delivers it, if it is tried again
+
+    @property
+    def what(self) -> str:
+        """What is to be done."""
+        return " ".join((self.kind, *self.words))
+
+    def environment(self) -> dict[str, str]:
+        """By which a command may know the job."""
+        return {"UUSPOOL_JOB": self.name, "UUSPOOL_SENDER": self.sender, "UUSPOOL_USER": self.user}

@@ -1,0 +1,29 @@
+"""The log of a site."""
+import contextlib
+import os
+from collections.abc import Callable
+
+from . import clock
+from .files import opened
+from .texts import printable
+
+
+class Journal:
+    """The log of a site, by the site's clock. If it can't be written, the line is printed,
+    because nothing else keeps it."""
+
+    def __init__(self, path: str, zone: str, say: Callable[[str], None]) -> None:
+        self._path, self._zone, self._say = path, zone, say
+
+    def note(self, system: str, user: str, job: int | str, how: str, words: str) -> None:
+        """Adds a line, with `-` for a missing word. It makes no log in another user's folder."""
+        with contextlib.suppress(OSError):
+            if os.stat(os.path.dirname(self._path)).st_uid != os.geteuid():
+                return
+        moment = clock.shown(self._zone, clock.now())
+        line = printable(f"{moment} {system or '-'} {user or '-'} {job or '-'} {how.replace(' ', '-')} {words}")
+        try:
+            with opened(self._path, os.O_WRONLY | os.O_APPEND | os.O_CREAT) as handle:
+                os.write(handle, f"{line}\n".encode())
+        except OSError:
+            self._say(f"{self._path} cannot be written, and lacks: {line}")

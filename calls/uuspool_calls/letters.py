@@ -1,0 +1,123 @@
+"""Letters to the users of jobs."""
+from collections.abc import Sequence
+
+from . import forward
+from .errors import Refusal, SpoolError
+from .jobs import Job
+from .processes import Program
+from .site import Site
+from .texts import lines_of, printable
+from .values import NamedTuple
+
+_FROM = "MAILER-DAEMON"
+_NULL = "<>"  # the sender in the envelope, so that no mailer sends a letter about a letter
+_LIMIT = 60  # seconds for the mailer
+_SHOWN_BYTES, _SHOWN_LINES, _SHOWN_JOBS = 2000, 20, 100
+
+
+class NotSent(Exception):
+    """A letter can't be sent now."""
+
+
+class Letter(NamedTuple):
+    """A letter about a job."""
+
+    subject: str
+    what: str  # became of the job
+    why: str
+
+    def text(self, own: str, job: Job, data: bytes) -> bytes:
+        """The letter, with the beginning of the job, unless it isn't given."""
+        head = [
+            *_head(own, job.user, f"{self.subject}: {job.what[:60]}"),
+            f"A job of yours, {job.size} bytes for {job.system}, {self.what}:",
+            "",
+            f"    {job.what}",
+            "",
+            self.why,
+            "",
+            f"It was queued at {own} on {job.day} at {job.hour} as job {job.number}." + (" It begins:" if data else ""),
+        ]
+        return "\n".join([*head, *([""] if data else []), *map("> {}".format, _beginning(data))]).encode() + b"\n"
+
+
+def _head(own: str, user: str, subject: str) -> list[str]:
+    return [f"From: {_FROM} ({own})", f"To: {user or 'postmaster'}", f"Subject: {subject}", "Auto-Submitted: auto-replied", ""]
+
+
+def _beginning(data: bytes) -> list[str]:
+    """The first lines of a job, in printable characters."""
+    lines = lines_of(data[:_SHOWN_BYTES])[:_SHOWN_LINES]
+    return ["\t".join(map(printable, line.split(b"\t"))) for line in lines]
+
+
+def _list_of(own: str, to: str, refused: Sequence[tuple[Job, str]]) -> bytes:
+    """One letter about many jobs."""
+    head = [*_head(own, to, f"refused: {len(refused)} jobs"), f"{len(refused)} jobs are refused at {own}. The first of them:", ""]
+    shown = [f"{job.user or '-'} {job.size} {job.what[:60]}: {reason}" for job, reason in refused[:_SHOWN_JOBS]]
+    return "\n".join([*head, *map(printable, shown)]).encode() + b"\n"
+
+
+def at_home(user: str, own: str) -> str:
+    """Who a user is here, if the way to the user comes back to this site: it asked a neighbour for what came."""
+    return user.rpartition(f"!{own}!")[2]
+
+
+class Mailroom:
+    """Sends the letters of a site: to a local user by the mailer, and to a neighbour's by the spool."""
+
+    def __init__(self, site: Site) -> None:
+        self._site = site
+        self._mailer = site.environment.get("UUSPOOL_SENDMAIL") or "/usr/sbin/sendmail"
+
+    def send(self, letter: Letter, job: Job, data: bytes, key: str = "") -> None:
+        """Sends a letter to the user of a job, or else to the postmaster. A letter for a neighbour's user
+        is queued once under its key, even if this is stopped."""
+        self._deliver(letter.text(self._site.own, job, data), self._way(job.user), key)
+
+    def send_word(self, user: str, subject: str, sentence: str, key: str = "") -> None:
+        """Sends a letter of a few words."""
+        text = [*_head(self._site.own, user, printable(subject[:80])), printable(sentence), ""]
+        self._deliver("\n".join(text).encode(), self._way(user), key)
+
+    def send_list(self, refused: Sequence[tuple[Job, str]], key: str) -> None:
+        """Sends one letter about many refused jobs of a local user, or of a neighbour to its postmaster."""
+        job = refused[0][0]
+        to = f"{job.sender}!postmaster" if job.sender else job.user or "postmaster"
+        self._deliver(_list_of(self._site.own, to, refused), to, key)
+
+    def _way(self, user: str) -> str:
+        """Where a letter goes. A neighbour says who asked it, so its word leads only to whom its mail may go."""
+        own, home = self._site.own, at_home(user, self._site.own)
+        if home != user:
+            try:
+                forward.expect_allowed(f"{self._site.etc}/forward", own, user.partition("!")[0], [home])
+            except Refusal:
+                return user
+        return home
+
+    def _deliver(self, text: bytes, user: str, key: str) -> None:
+        if "!" in user:
+            if self._queue(user, text, key):
+                return
+        elif self._mail(user or "postmaster", text):
+            return
+        if not self._mail("postmaster", text):
+            raise NotSent(f"{self._mailer} takes no letter")
+
+    def _queue(self, user: str, text: bytes, key: str) -> bool:
+        self._site.will_forget_keys()
+        spool = self._site.spool
+        try:
+            if key:
+                spool.ask(f"--as={_FROM}", "mail", f"--once={key}", "--", user, given=text)
+            else:
+                spool.ask_once(f"--as={_FROM}", "mail", "--", user, given=text)
+        except SpoolError:
+            return False
+        return True
+
+    def _mail(self, user: str, text: bytes) -> bool:
+        words = [self._mailer, "-i", "-f", _NULL, "--", user]
+        program = Program(words, self._site.folder, self._site.environment, _LIMIT)
+        return self._site.session.processes.run(program, text).status == 0

@@ -1,0 +1,58 @@
+"""What is queued here for a neighbour, in pieces if it is larger than a job."""
+import os
+from collections.abc import Iterator
+
+from . import carriers
+from .bundle import MOST_OF_A_JOB
+from .digests import sha256
+from .errors import Delay
+from .pieces import SIZE, Piece
+from .site import Site
+from .values import NamedTuple
+
+
+class Parcelled(NamedTuple):
+    """What is queued: for whom, whose it is, and what is done with it there."""
+
+    system: str
+    user: str
+    grade: str
+    key: str  # under which it is queued once, if it is one job
+    mark: str  # of its pieces, the same if it is queued again after a stop
+    words: tuple[str, ...]  # its kind, and the words of that
+
+
+def queue(site: Site, what: Parcelled, content: int) -> None:
+    """Queues the bytes of an open file, as a job or in pieces. If a stop comes between two pieces, this is done again, and
+    queues those that don't wait. SpoolError if the spool doesn't take it."""
+    length = int(carriers.values_of(site.session, what.system).get("piece", 0))
+    is_plain = what.words[0] == "exec" or len(what.words) == 3
+    line = [f"--as={what.user}", "exec", f"-g{what.grade}", "--", what.system]
+    if is_plain and os.fstat(content).st_size <= (length or MOST_OF_A_JOB):
+        line[1], *words = what.words
+        site.will_forget_keys()
+        site.spool.ask(*line[:3], f"--once={what.key}", *line[3:], *words, given=content)
+        return
+    waiting = {job.words: job for job in site.spool.waiting(what.system) if job.user == what.user}
+    for piece, data in _cut(content, length or SIZE, what):
+        if tuple(piece.line()) not in waiting:
+            site.spool.ask_once(*line, *piece.line(), given=data)
+
+
+def mark_of(job: str) -> str:
+    """The mark of the pieces that a job makes, by its name."""
+    return "-".join(job.split("!")[1:]).replace(".", "-")
+
+
+def _cut(content: int, length: int, what: Parcelled) -> Iterator[tuple[Piece, bytes]]:
+    """The pieces of an open file, and the bytes of each."""
+    size, digest, at = os.fstat(content).st_size, sha256(), 0
+    while block := os.pread(content, 1 << 20, at):
+        digest.update(block)
+        at += len(block)
+    for at in range(0, max(1, size), length):
+        piece = Piece(digest.hexdigest(), size, length, what.mark, at, what.words)
+        data = os.pread(content, piece.bytes, at)
+        if len(data) != piece.bytes:
+            raise Delay(f"{what.words[1]} became shorter while it was queued")
+        yield piece, data

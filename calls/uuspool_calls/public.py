@@ -1,0 +1,320 @@
+"""The public folder: where files of neighbours come to, and from where they are fetched.
+
+A neighbour has a folder of its own there, unless a table names another one. Names come from strangers, and who
+may write a folder may put links there meanwhile. So each folder on the way is opened by its name alone in the one
+above it, without following a link, and what a path says counts only for what was opened. A new file gets its name
+when it is whole, and takes that of no file of another owner or sender: a number is added."""
+import contextlib
+import errno
+import os
+import stat
+from collections.abc import Iterator, Sequence
+
+from . import clock
+from .errors import Delay, Refusal
+from .files import closing, copy_all, look, opened, read_bytes
+
+_OPEN_FOLDER = os.O_RDONLY | os.O_DIRECTORY | os.O_NOFOLLOW | os.O_CLOEXEC
+_OPEN_FILE = os.O_RDONLY | os.O_NONBLOCK | os.O_NOCTTY | os.O_CLOEXEC
+_MAKE_FILE = os.O_WRONLY | os.O_CREAT | os.O_EXCL | os.O_NOFOLLOW | os.O_CLOEXEC
+_MAKE_NAMELESS = os.O_WRONLY | os.O_TMPFILE | os.O_CLOEXEC
+_COMMON = "/var/spool/uucppublic"
+_MARK = ".uuspool"  # in the folder of a neighbour. No path of a job has such a name
+_AHEAD = 2 * 86400  # seconds by which the mark is newer than any file there
+_CANNOT_BE_NAMELESS = (errno.EOPNOTSUPP, errno.EISDIR, errno.ENOENT)  # a file, on this disk
+_SIGNS = frozenset("'\"\\")  # that no name has
+_MOST_NUMBERS = 1000
+_BLOCK = 1 << 20
+
+
+def find(environment_folder: str, table: str, neighbour: str, own: str) -> "Public":
+    """The public folder as a neighbour has it, or this site itself, if there is none: that of its last line in a
+    table, or else one of its name in the common folder. Jobs of this site go to the common folder."""
+    common, folders = _plain(environment_folder or _COMMON), {}
+    for line in (read_bytes(table) or b"").decode(errors="surrogateescape").split("\n"):
+        words = line.split(maxsplit=1)
+        if len(words) == 2:
+            folders[words[0]] = _plain(words[1].rstrip())
+    others = [folder for name, folder in folders.items() if name not in (neighbour, own)]
+    folder = folders.get(neighbour or own)
+    if folder is None:
+        return Public(common, own, neighbour, others=others)
+    return Public(folder, own, is_alone=[*folders.values(), common].count(folder) == 1, others=others)
+
+
+def _plain(folder: str) -> str:
+    """The one name of a folder, however a table writes it."""
+    return os.path.realpath(folder) if folder.startswith("/") else folder
+
+
+def _is_name(name: str) -> bool:
+    return name != "" and name[0] != "." and name.isprintable() and _SIGNS.isdisjoint(name)
+
+
+def inside(path: str) -> str | None:
+    """What a path is below the public folder, or None if it isn't below it: it starts at the root or in
+    somebody's home, or has a name that begins with a dot, or one with a quote, a backslash or a control
+    character. (Scripts that clean such folders may read these signs away, so that `\\..` leads out.)"""
+    rest = path.removeprefix("~/")
+    is_below = all(map(_is_name, rest.split("/"))) and not rest.startswith("~")
+    return rest if is_below else None
+
+
+def expect_inside(path: str, own: str) -> None:
+    """Refusal of a path where no file of a neighbour can come."""
+    if inside(path) is None:
+        raise Refusal(f"{own} takes files below its public folder alone (~/NAME), not {path}")
+
+
+class Public:
+    """The public folder of this site as one sender has it. Its files come to a folder of its name there, if it
+    is a neighbour that shares the public folder. If it is alone where its files come, a new file of it replaces
+    an old one."""
+
+    def __init__(self, folder: str, own: str, neighbour: str = "", is_alone: bool = False, others: Sequence[str] = ()) -> None:
+        self._folder, self._own, self._neighbour = folder, own, neighbour
+        self._others = others  # where files of other neighbours come
+        self._is_alone = is_alone or bool(neighbour)
+
+    def put(self, path: str, content: int) -> str:
+        """Writes the bytes of an open file to a path, or to one with a number, and says to which. The file, and
+        each missing folder on the way, are on the disk before this ends."""
+        expect_inside(path, self._own)
+        *folders, name = path.removeprefix("~/").split("/")
+        try:
+            with self._place() as at, contextlib.ExitStack() as on_the_way:
+                for folder in folders:
+                    at = on_the_way.enter_context(_entered(at, folder))
+                with _New(at, content) as new:
+                    named = new.take(name, self._is_alone)
+        except _LeadsOut:
+            raise Refusal(f"{path} is a folder, or leads out of the public folder of {self._own}") from None
+        except OSError as error:
+            raise Delay(f"{path} cannot be written below {self._folder}: {error.strerror}") from None
+        return f"{path.removesuffix(name)}{named}"
+
+    @property
+    def place(self) -> str:
+        """The folder to which the files of the sender come."""
+        return f"{self._folder}/{self._neighbour}".rstrip("/")
+
+    @contextlib.contextmanager
+    def _top(self) -> Iterator[int]:
+        """The folder itself, to which a link may lead."""
+        try:
+            top = opened(self._folder, os.O_RDONLY | os.O_DIRECTORY)
+        except (FileNotFoundError, NotADirectoryError):
+            raise Delay(f"there is no public folder {self._folder} at {self._own}") from None
+        with top as handle:
+            yield handle
+
+    @contextlib.contextmanager
+    def _place(self) -> Iterator[int]:
+        """Where the files of the sender come."""
+        with self._top() as top:
+            if not self._neighbour:
+                yield top
+                return
+            with self._entered_neighbour(top) as place:
+                yield place
+
+    @contextlib.contextmanager
+    def _entered_neighbour(self, top: int) -> Iterator[int]:
+        """The folder of the neighbour, where only this site writes. It is made if it is missing, and marked. (A
+        local user may have put something else there, so the job waits.)"""
+        path = f"{self._folder}/{self._neighbour}"
+        with contextlib.ExitStack() as held:
+            try:
+                place = held.enter_context(_entered(top, self._neighbour))
+            except _LeadsOut:
+                raise Delay(f"{path} is no folder, so no file of {self._neighbour} can come: remove it") from None
+            seen = os.fstat(place)
+            if seen.st_uid not in (os.geteuid(), 0) or seen.st_mode & 0o022:
+                raise Delay(f"{path}, to which files of {self._neighbour} come, is another user's, or others may write it: remove it")
+            _mark(place)
+            yield place
+
+    @contextlib.contextmanager
+    def opened(self, path: str) -> Iterator[int]:
+        """The file that a neighbour asks for: its own, or one for all, but not one that another neighbour brought.
+        It may be a link to another one in the folder, so where it is gets checked after it is opened. It may be a second
+        name that somebody gave to a file of others, so it has to be one that everybody may read."""
+        below = inside(path)
+        if below is None:
+            raise Refusal(f"{self._own} gives files below its public folder alone (~/NAME), not {path}")
+        with self._top() as top, closing(self._open(top, path, below)) as handle:
+            seen = os.fstat(handle)
+            if not stat.S_ISREG(seen.st_mode):
+                raise Refusal(f"{path} is no readable file at {self._own}")
+            if seen.st_nlink > 1 and not seen.st_mode & stat.S_IROTH:
+                raise Refusal(f"{path} is another name of a file at {self._own} that not everybody may read")
+            place, home = _place_of(handle), f"{_place_of(top)}/"
+            if not place.startswith(home):
+                raise Refusal(f"{path} leads out of the public folder of {self._own}")
+            first = place.removeprefix(home).split("/")[0]
+            if any(it.startswith(home) and place.startswith(f"{it}/") for it in self._others):
+                raise Refusal(f"{path} came to {self._own} from another neighbour")
+            if first != self._neighbour and _is_neighbours(top, first):
+                raise Refusal(f"{path} came to {self._own} from {first}, and is for no other neighbour")
+            yield handle
+
+    def _open(self, top: int, path: str, below: str) -> int:
+        if self._neighbour:
+            with contextlib.suppress(OSError):
+                return os.open(f"{self._neighbour}/{below}", _OPEN_FILE, dir_fd=top)
+        try:
+            return os.open(below, _OPEN_FILE, dir_fd=top)
+        except FileNotFoundError:
+            raise Refusal(f"{self._own} has no file {path}") from None
+        except OSError:
+            raise Refusal(f"{path} is no readable file at {self._own}") from None
+
+
+class _LeadsOut(Exception):
+    """A folder on the way is something else, or a folder has the file's name."""
+
+
+class _New:
+    """A new file in an open folder. It has no name until it is whole, or if the file system has no such files, one
+    that begins with a dot."""
+
+    def __init__(self, folder: int, content: int) -> None:
+        self._folder, self._content, self._name = folder, content, ""
+
+    def __enter__(self) -> "_New":
+        try:
+            self._handle = os.open(".", _MAKE_NAMELESS, 0o600, dir_fd=self._folder)
+        except OSError as error:
+            if error.errno not in _CANNOT_BE_NAMELESS:
+                raise
+            self._name = _name_of_a_new_file()
+            self._handle = os.open(self._name, _MAKE_FILE, 0o600, dir_fd=self._folder)
+        try:
+            copy_all(self._content, self._handle)
+            os.fchmod(self._handle, 0o644)
+            os.fsync(self._handle)
+        except BaseException:
+            self._close()
+            raise
+        return self
+
+    def __exit__(self, *error: object) -> None:
+        self._close()
+
+    def _close(self) -> None:
+        os.close(self._handle)
+        if self._name:
+            with contextlib.suppress(OSError):
+                os.remove(self._name, dir_fd=self._folder)
+
+    def take(self, name: str, replaces: bool) -> str:
+        """Takes a name, or the first with a number that no other file has. A file that has these bytes already
+        is that of a job that comes again after a stop."""
+        if _is_folder(self._folder, name):
+            raise _LeadsOut
+        for number in range(1, _MOST_NUMBERS):
+            numbered = f"{name}.{number}" if number > 1 else name
+            if self._takes(numbered, replaces):
+                os.fsync(self._folder)
+                return numbered
+        raise OSError(errno.EEXIST, f"there are {_MOST_NUMBERS} files of this name")
+
+    def _takes(self, name: str, replaces: bool) -> bool:
+        try:
+            self._link(name)
+            return True
+        except FileExistsError:
+            if not replaces:
+                return _is_ours(self._folder, name) and _has_bytes(self._folder, name, self._content)
+        if not _is_ours(self._folder, name):
+            return False
+        new = _name_of_a_new_file()
+        self._link(new)
+        os.replace(new, name, src_dir_fd=self._folder, dst_dir_fd=self._folder)
+        return True
+
+    def _link(self, name: str) -> None:
+        if self._name:
+            os.link(self._name, name, src_dir_fd=self._folder, dst_dir_fd=self._folder, follow_symlinks=False)
+        else:
+            os.link(f"/proc/self/fd/{self._handle}", name, dst_dir_fd=self._folder, follow_symlinks=True)
+
+
+def _name_of_a_new_file() -> str:
+    return f".new.{os.urandom(8).hex()}"
+
+
+def _place_of(handle: int) -> str:
+    """Where an open file is."""
+    return os.readlink(f"/proc/self/fd/{handle}")
+
+
+@contextlib.contextmanager
+def _readable_by_all() -> Iterator[None]:
+    before = os.umask(0o022)
+    try:
+        yield
+    finally:
+        os.umask(before)
+
+
+@contextlib.contextmanager
+def _entered(above: int, name: str) -> Iterator[int]:
+    """The folder of this name in an open one. It is made if it is missing."""
+    with _readable_by_all(), contextlib.suppress(FileExistsError):
+        os.mkdir(name, 0o777, dir_fd=above)
+        os.fsync(above)
+    try:
+        folder = opened(name, _OPEN_FOLDER, folder=above)
+    except OSError as error:
+        if error.errno in (errno.ENOTDIR, errno.ELOOP):  # a file, or a link
+            raise _LeadsOut from None
+        raise
+    with folder as handle:
+        yield handle
+
+
+def _is_folder(folder: int, name: str) -> bool:
+    """Whether this name is a folder, or a link to one."""
+    its = look(name, folder)
+    return its is not None and stat.S_ISDIR(its.st_mode)
+
+
+def _mark(folder: int) -> None:
+    """Marks the folder of a neighbour. What removes old files, such as Debian's uudemon.day, has to remove the mark
+    last, so it gets a time to come."""
+    if not _is_marked(folder):
+        os.close(os.open(_MARK, _MAKE_FILE, 0o600, dir_fd=folder))
+    ahead = clock.now() + _AHEAD
+    with contextlib.suppress(PermissionError):  # (if it is root's)
+        os.utime(_MARK, (ahead, ahead), dir_fd=folder, follow_symlinks=False)
+
+
+def _is_marked(folder: int) -> bool:
+    """Whether this is the folder of a neighbour. (Others can't make such a mark.)"""
+    its = look(_MARK, folder, follows=False)
+    return its is not None and its.st_uid in (os.geteuid(), 0)
+
+
+def _is_neighbours(top: int, name: str) -> bool:
+    with contextlib.suppress(OSError), opened(name, _OPEN_FOLDER, folder=top) as folder:
+        return _is_marked(folder)
+    return False
+
+
+def _is_ours(folder: int, name: str) -> bool:
+    """Whether this is a file that this site put there."""
+    its = look(name, folder, follows=False)
+    return its is not None and stat.S_ISREG(its.st_mode) and its.st_uid == os.geteuid()
+
+
+def _has_bytes(folder: int, name: str, content: int) -> bool:
+    """Whether a file has the bytes of an open one."""
+    with contextlib.suppress(OSError), opened(name, _OPEN_FILE | os.O_NOFOLLOW, folder=folder) as handle:
+        place, size = 0, os.fstat(content).st_size
+        is_same = os.fstat(handle).st_size == size
+        while is_same and place < size:
+            is_same = os.pread(handle, _BLOCK, place) == os.pread(content, _BLOCK, place)
+            place += _BLOCK
+        return is_same
+    return False

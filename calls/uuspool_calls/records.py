@@ -1,0 +1,53 @@
+"""What is kept about jobs that can't be delivered yet."""
+
+from . import files
+from .jobs import Job
+from .values import NamedTuple
+
+_FIRST_WAIT, _MOST_WAIT = 600, 14400
+_MOST_DOUBLINGS = 10
+DAYS = 5  # after which a job that always failed is refused
+
+
+class Tries(NamedTuple):
+    """How often a job failed, when it is tried again, when it was first tried, and why it failed. A record
+    is about one job, and has the job's line."""
+
+    job: str
+    failed: int
+    next: int
+    first: int
+    why: str = ""
+
+    @staticmethod
+    def read(folder: str, job: Job, now: int) -> "Tries":
+        """The record of a job, or that of a job that wasn't tried."""
+        record = files.read_record(f"{folder}/{job.number}")
+        try:
+            if record["job"] == job.line:
+                return Tries(job.line, int(record["failed"]), int(record["next"]), int(record["first"]), str(record["why"]))
+        except (KeyError, TypeError, ValueError):
+            pass
+        return Tries(job.line, 0, 0, now)
+
+    def is_later(self, now: int) -> bool:
+        """Whether it isn't tried yet. Not if the clock was set back."""
+        return now < self.next <= now + _MOST_WAIT
+
+    def is_old(self, now: int) -> bool:
+        """Whether it failed for too long."""
+        return now - self.first > DAYS * 86400
+
+    def after_failure(self, why: str, now: int) -> "Tries":
+        """The record after one more try: the next is twice as late as this one was."""
+        pause = min(_FIRST_WAIT << min(self.failed, _MOST_DOUBLINGS), _MOST_WAIT)
+        return self._replace(failed=self.failed + 1, next=now + pause, why=why)
+
+    def write(self, folder: str, number: int) -> None:
+        """Keeps the record."""
+        files.write_record(f"{folder}/{number}", self._asdict())
+
+
+def forget(folder: str, number: int) -> None:
+    """Forgets the record of a job."""
+    files.remove(f"{folder}/{number}")

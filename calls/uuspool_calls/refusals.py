@@ -1,0 +1,251 @@
+"""What happens to a job that waits besides a call: it is queued anew, or refused for good. A stop between
+two steps leaves the job, and the rest is done again.
+
+A job that is refused for good is kept in one file below refused/: a line with the reason, and what `show` prints. A
+file that came in pieces is kept in a folder, whose name ends with `.file`. While nobody was told, the name ends with
+`.untold`. Who has many jobs refused gets one letter about them. Old ones are removed, and the oldest of a sender
+whose jobs take too much room."""
+import collections
+import contextlib
+import itertools
+import os
+import time
+from collections.abc import Iterator, Sequence
+
+from . import files, pieces
+from .errors import LATER, SpoolError
+from .jobs import Job, Parcel
+from .letters import Letter, Mailroom, NotSent
+from .pieces import FILE, UNTOLD
+from .site import Site
+from .texts import printable
+from .values import NamedTuple
+
+_MOST_LETTERS = 20  # to one local user, or to one neighbour, at a time
+_LOOKED = ".looked"  # when the age and the size of what is kept were looked at
+_BETWEEN_LOOKS = 3600  # seconds
+_DAYS = 90
+_MEGABYTES = 64
+_DAY = 86400
+_MOST_OF_A_LINE = 1 << 16  # bytes
+
+
+class NotRemoved(Exception):
+    """A job was queued anew, and the old one can't be removed now."""
+
+
+def requeue(site: Site, parcel: Parcel, system: str, words: Sequence[str] | None = None) -> str:
+    """Queues a job anew for a system, once, under a new number, and removes the old one. The answer is
+    `job` and the number. SpoolError if it wasn't queued."""
+    job = parcel.job
+    site.will_forget_keys()
+    key = f"{site.own}!{job.number}!again"
+    queued = site.spool.queue_again(job, key, system, job.words if words is None else words, parcel.data)
+    try:
+        site.spool.kill(job)
+    except SpoolError as error:
+        raise NotRemoved(str(error)) from None
+    return queued
+
+
+class Refuser:
+    """Refuses jobs for good: a job is kept below refused/, and removed. `tell` writes to its user then."""
+
+    def __init__(self, site: Site) -> None:
+        self._site = site
+
+    def refuse(self, parcel: Parcel, why: str, is_kept: bool = False) -> bool:
+        """Refuses a job, and the other pieces of its file that wait with it, unless it is kept already. If one can't be
+        refused now it waits, and this says so."""
+        if is_kept or pieces.Piece.of(parcel.job) is None:
+            return self._refuse(parcel, why, is_kept)
+        try:
+            jobs = pieces.together(parcel.job, self._site.spool.waiting(parcel.job.system))
+        except SpoolError as error:
+            return self._waits(parcel.job.number, str(error))
+        shown = (self._site.spool.show(it.number) for it in jobs)
+        return all([self._refuse(it, why, is_kept) for it in shown if it])
+
+    def _refuse(self, parcel: Parcel, why: str, is_kept: bool) -> bool:
+        reason, job = printable(why[:500]), parcel.job
+        try:
+            if not is_kept:
+                self._keep(parcel, reason)
+            self._site.spool.kill(job)
+        except OSError as error:
+            return self._waits(job.number, f"it cannot be kept below {self._site.folder}/refused: {error.strerror}")
+        except SpoolError as error:
+            return self._waits(job.number, str(error))
+        self._site.log.note(job.system, job.user, job.number, "refused-for-good", reason)
+        return True
+
+    def _waits(self, number: int, why: str) -> bool:
+        self._site.session.say(f"job {number} cannot be refused now, and waits: {why}")
+        return False
+
+    def _keep(self, parcel: Parcel, reason: str) -> None:
+        """The same job is one file, and no other file is overwritten: a spool that was made anew gives its
+        numbers again."""
+        first = f"{self._site.folder}/refused/{parcel.job.number}"
+        for copy in itertools.count(1):
+            path = f"{first}.{copy}" if copy > 1 else first
+            there = [it for it in (path, f"{path}{UNTOLD}") if os.path.lexists(it)]
+            if any((files.read_bytes(it) or b"").partition(b"\n")[2] == parcel.text for it in there):
+                return
+            if not there:
+                files.replace(f"{path}{UNTOLD}", f"{reason}\n".encode() + parcel.text)
+                return
+
+
+class Kept(NamedTuple):
+    """What is kept, and why: a job, or the file that came in pieces."""
+
+    path: str
+    job: Job  # as that of the whole file, if it is a piece
+    name: str  # the same for all pieces of a file
+    data: bytes  # its beginning, but not that of a file in pieces
+    reason: str
+    number: int | None  # of a job, under which a letter about it is queued once
+
+    @staticmethod
+    def read(path: str) -> "Kept | None":
+        """What a file or a folder has, if it is kept there."""
+        if os.path.isdir(path):
+            return _kept_file(path)
+        with contextlib.suppress(OSError, ValueError), open(path, "rb") as file:
+            reason, line = (file.readline(_MOST_OF_A_LINE).decode(errors="replace").removesuffix("\n") for _ in range(2))
+            job = Job.read(line)
+            is_piece = pieces.Piece.of(job) is not None
+            name, data = (pieces.name_of(job), b"") if is_piece else (path, file.read(_MOST_OF_A_LINE))
+            return Kept(path, pieces.whole_of(job), name, data, reason, job.number)
+        return None
+
+    @property
+    def who(self) -> str:
+        """Whose letters count together: a local user, or a neighbour."""
+        return f"{self.job.sender}!" if self.job.sender else self.job.user
+
+    def key(self, own: str) -> str:
+        """Under what a letter about it is queued once."""
+        return f"{own}!{self.number}!refused" if self.number is not None else ""
+
+    def note_told(self) -> None:
+        """Its user knows it."""
+        with contextlib.suppress(FileNotFoundError):
+            os.rename(self.path, self.path.removesuffix(UNTOLD))
+
+
+def _kept_file(path: str) -> Kept | None:
+    """The file in a folder. It has the number of the job that brought its first piece, if that is known."""
+    about = pieces.About.read(path)
+    if about is None:
+        return None
+    own, number, moment = (about.job or "-!0!-.-").split("!")
+    (kind, *words), (day, _, hour) = about.piece.words, moment.partition(".")
+    job = Job(int(number), own, about.user, "-", day, hour, about.piece.size, kind, tuple(words), "")
+    return Kept(path, job, os.path.basename(path), b"", about.why, int(number) or None)
+
+
+def tell(site: Site) -> int:
+    """Writes to the users of jobs that were refused and that nobody was told about. The status is that of the
+    command: if a letter can't be sent now, that is tried again."""
+    with site.lock("refused/.lock") as lock:
+        if not lock.take():
+            return 0
+        groups = collections.defaultdict(list)
+        for kept in _untold(site):
+            groups[kept.who].append(kept)
+        ends = [_tell(site, group) for group in groups.values()]
+    return 0 if all(ends) else LATER
+
+
+def has_untold(site: Site) -> bool:
+    """Whether somebody has to be told yet, under a key that isn't forgotten before."""
+    return any(name.endswith(UNTOLD) for name in files.names_in(f"{site.folder}/refused"))
+
+
+def _untold(site: Site) -> Iterator[Kept]:
+    for name in files.names_in(f"{site.folder}/refused"):
+        path = f"{site.folder}/refused/{name}"
+        if name.endswith(UNTOLD) and (kept := Kept.read(path)):
+            yield kept
+
+
+def _tell(site: Site, group: Sequence[Kept]) -> bool:
+    """A letter about each job, or one about all if they are many. A file in pieces has the number of the first. Nobody gets
+    a letter about a letter."""
+    mailroom, own = Mailroom(site), site.own
+    group = sorted(group, key=lambda it: -(it.number or 0))
+    jobs = list({it.name: it for it in group if not it.job.is_letter}.values())[::-1]
+    try:
+        if len(jobs) > _MOST_LETTERS:
+            mailroom.send_list([(it.job, it.reason) for it in jobs], jobs[0].key(own))
+        else:
+            for it in jobs:
+                mailroom.send(Letter("refused", f"is refused at {own}", f"{it.reason}."), it.job, it.data, it.key(own))
+                for other in group:
+                    if other.name == it.name:
+                        other.note_told()
+    except NotSent as error:
+        site.session.say(f"the user of job {jobs[0].job.number}, which is refused, cannot be told: {error}")
+        return False
+    for it in group:
+        it.note_told()
+    return True
+
+
+def forget_old(site: Site) -> None:
+    """Removes what was refused long ago, and the oldest of a sender that fills the disk."""
+    folder, looked = f"{site.folder}/refused", f"{site.folder}/refused/{_LOOKED}"
+    with contextlib.suppress(OSError):
+        if 0 <= time.time() - os.stat(looked).st_mtime < _BETWEEN_LOOKS:
+            return
+    files.touch_if_possible(looked)
+    oldest = time.time() - site.session.setting("UUSPOOL_REFUSED_DAYS", _DAYS) * _DAY
+    most = site.session.setting("UUSPOOL_REFUSED_MEGABYTES", _MEGABYTES) << 20
+    sums: collections.Counter[str] = collections.Counter()
+    for path, written, size in newest_first(folder):
+        kept = Kept.read(path)
+        sender = kept.job.sender if kept else ""
+        is_newest = not sums[sender]
+        sums[sender] += size
+        if written < oldest or (sums[sender] > most and not is_newest):
+            with contextlib.suppress(OSError):
+                files.remove_folder(path) if os.path.isdir(path) else os.remove(path)
+
+
+def newest_first(folder: str) -> list[tuple[str, float, int]]:
+    """What is kept, when it was written last, and its bytes on the disk."""
+    found = []
+    for name in files.names_in(folder):
+        if name[:1].isdecimal() and not name.endswith(".warned") or name.removesuffix(UNTOLD).endswith(FILE):
+            path = f"{folder}/{name}"
+            with contextlib.suppress(OSError):
+                seen = [os.stat(it, follow_symlinks=False) for it in (path, *(f"{path}/{it}" for it in files.names_in(path)))]
+                found.append((path, seen[0].st_mtime, sum(it.st_blocks for it in seen) * 512))
+    return sorted(found, key=lambda it: it[1], reverse=True)
+
+
+def warn(site: Site, parcel: Parcel, days: int) -> bool:
+    """Tells a job's user once that it still waits, and for how long. (A job has one key, which is for the
+    letter of its refusal, so a stop may double a warning.)"""
+    job, mark = pieces.whole_of(parcel.job), f"{site.folder}/refused/{pieces.name_of(parcel.job)}.warned"
+    if job.is_letter or os.path.exists(mark):
+        return True
+    why = f"{job.system} was not reached yet. The job goes on waiting, until it is {days} days old."
+    try:
+        data = b"" if pieces.Piece.of(parcel.job) else parcel.data
+        Mailroom(site).send(Letter("still waits", f"still waits at {site.own}", why), job, data)
+    except NotSent as error:
+        site.session.say(f"the user of job {job.number} cannot be told: {error}")
+        return False
+    files.touch(mark)
+    return True
+
+
+def forget_warnings(site: Site, waiting: set[str]) -> None:
+    """Warnings of jobs and files other than these, by their names, are forgotten."""
+    for name in files.names_in(f"{site.folder}/refused"):
+        if name.endswith(".warned") and name.removesuffix(".warned") not in waiting:
+            with contextlib.suppress(OSError):
+                os.remove(f"{site.folder}/refused/{name}")

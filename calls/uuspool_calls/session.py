@@ -1,0 +1,113 @@
+"""One run of a command: what it is called, where things are installed, and how it speaks."""
+import contextlib
+import os
+import pwd
+from collections.abc import Iterator, Mapping, Sequence
+
+from .errors import USAGE, Failure
+from .processes import Ended, Processes, Program
+from .texts import is_number
+
+_LIBRARY = os.path.dirname(os.path.dirname(os.path.realpath(__file__)))
+
+
+class Session:
+    """What a run of a command has."""
+
+    def __init__(self, name: str, environment: Mapping[str, str], library: str = _LIBRARY) -> None:
+        self.name = name  # with which its sentences begin
+        self.command = name
+        self.environment = {**environment, "LC_ALL": "C"}
+        self.library = library
+        self.commands = f"{os.path.dirname(os.path.dirname(library))}/bin"
+        self.program = f"{self.commands}/uuspool"
+        self.etc = environment.get("UUSPOOL_ETC") or "/etc/uuspool"
+        self.processes = Processes()
+
+    def say(self, sentence: str) -> None:
+        """Prints a sentence as an error, whole. (A carrier has no name: its last line says why a call failed.) A name in it
+        may be the spool's user's, and root's terminal mustn't obey it."""
+        head = f"{self.name}: " if self.name else ""
+        plain = "".join(it if it.isprintable() else "?" for it in sentence)
+        os.write(2, f"{head}{plain}\n".encode())
+
+    def print(self, line: str) -> None:
+        """Prints a line."""
+        os.write(1, f"{line}\n".encode(errors="surrogateescape"))
+
+    def setting(self, name: str, otherwise: int) -> int:
+        """A number of the environment."""
+        word = self.environment.get(name) or str(otherwise)
+        if not is_number(word):
+            raise Failure(USAGE, f"{name} is {word}, and has to be a number")
+        return int(word)
+
+    @property
+    def call_limit(self) -> int:
+        """The seconds of a call."""
+        return self.setting("UUSPOOL_CALL_LIMIT", 3600)
+
+    @property
+    def command_limit(self) -> int:
+        """The seconds of a command that neighbours run, if its line gives no others."""
+        return self.setting("UUSPOOL_COMMAND_LIMIT", 50)
+
+    @property
+    def at_once(self) -> int:
+        """How many calls are made, or jobs delivered, at a time."""
+        return max(1, self.setting("UUSPOOL_AT_ONCE", 8))
+
+    def finds(self, program: str, more: str = "") -> bool:
+        """Whether a program is there, by its path or in one of the folders of PATH and these. (The module shutil
+        takes long to load.)"""
+        folders = [""] if "/" in program else (self.environment.get("PATH", "") + more).split(":")
+        paths = [os.path.join(folder, program) for folder in folders] if program else []
+        return any(os.path.isfile(path) and os.access(path, os.X_OK) for path in paths)
+
+    def run_as(self, owner: str, words: Sequence[str], given: bytes | int = b"", joined: bool = False) -> Ended:
+        """Runs a program as this user, in the present folder. The terminal of root, who may run this, isn't its
+        own, because whatever else this user runs could type there."""
+        if owner != user_name(os.geteuid()):
+            words = ["setsid", "-w", "runuser", "-u", owner, "--", *words]
+        return self.processes.run(Program(words, "", self.environment), given, joined=joined)
+
+    def may(self, owner: str, path: str, mode: int) -> bool:
+        """Whether this user may use a file: os.R_OK, os.W_OK or os.X_OK."""
+        if owner == user_name(os.geteuid()):
+            return os.access(path, mode)
+        letter = {os.R_OK: "-r", os.W_OK: "-w", os.X_OK: "-x"}[mode]
+        return self.run_as(owner, ["test", letter, path]).status == 0
+
+
+def user_name(number: int) -> str:
+    """The name of a user, or its number if it has none."""
+    try:
+        return pwd.getpwuid(number).pw_name
+    except KeyError:
+        return str(number)
+
+
+def numbers_of(user: str) -> tuple[int, int]:
+    """The numbers of a user and of the user's group."""
+    entry = pwd.getpwnam(user)
+    return entry.pw_uid, entry.pw_gid
+
+
+@contextlib.contextmanager
+def acting_as(user: str) -> Iterator[None]:
+    """root uses what is in a folder of the user's as that user, who may put links there meanwhile. (Without a user, and
+    for anybody but root, nothing changes.)"""
+    if os.geteuid() or not user:
+        yield
+        return
+    number, group = numbers_of(user)
+    groups = os.getgroups()
+    os.initgroups(user, group)
+    os.setegid(group)
+    os.seteuid(number)
+    try:
+        yield
+    finally:
+        os.seteuid(0)
+        os.setegid(0)
+        os.setgroups(groups)

@@ -1,0 +1,79 @@
+"""The site, as the program finds it: where its settings, its spool and its log are, and what its clock shows."""
+import os
+from collections.abc import Sequence
+
+from .errors import NOT_SET_UP, Failure
+from .processes import Program
+from .session import Session
+from .texts import one_line
+from .values import NamedTuple
+
+_KNOWN = {"spool", "zone", "offset", "name", "admins", "seals"}
+
+
+class NoSite(Failure):
+    """There is no site, or its settings are wrong, as the program says."""
+
+    def __init__(self, why: str) -> None:
+        super().__init__(NOT_SET_UP, why)
+
+
+class Settings(NamedTuple):
+    """What `uuspool site` prints. All paths start at the root."""
+
+    name: str  # the site's own name
+    path: str  # the settings file
+    start: str  # the folder of the site, where relative paths start
+    spool: str  # the spool's file
+    log: str
+    zone: str  # the clock of the site, as the variable TZ has it
+    seals: str = ""  # the folder with the keys of neighbours, or nothing if bundles aren't sealed
+
+    @property
+    def folder(self) -> str:
+        """The folder of the spool. All that the commands keep is below it."""
+        return os.path.dirname(self.spool)
+
+
+NOWHERE = Settings("", "", "", "", "", "UTC0")
+
+
+def find(session: Session, options: Sequence[str] = ()) -> Settings:
+    """The settings of the site on which this run works, or of one that options of the program name."""
+    ended = session.processes.run(Program([session.program, *options, "site"], "", session.environment))
+    if ended.status:
+        raise NoSite(one_line(ended.errors) or f"{session.program} ended with status {ended.status}")
+    return read(ended.output.decode(errors="surrogateescape"))
+
+
+def read(text: str) -> Settings:
+    """The settings in an output of `uuspool site`: a line each, a word and its value."""
+    found = dict(line.partition(" ")[::2] for line in text.splitlines())
+    zone = found.get("zone") or _zone_of(int(found.get("offset", 0)))
+    try:
+        return Settings(found["name"], found["settings"], found["folder"], found["spool"], found["log"], zone, found.get("seals", ""))
+    except KeyError as word:
+        raise NoSite(f"uuspool site says no {word.args[0]}: the program and these commands are of different versions") from None
+
+
+def _zone_of(minutes: int) -> str:
+    """Minutes ahead of UTC have the opposite sign in TZ."""
+    hours, rest = divmod(abs(minutes), 60)
+    return f"<site>{'-' if minutes >= 0 else '+'}{hours}:{rest}"
+
+
+def unknown_keys(path: str) -> list[tuple[int, str]]:
+    """The lines of a settings file that mean nothing, and their keys."""
+    import tomllib  # (takes long to load, and no mailer waits for this)
+
+    with open(path, encoding="utf-8") as file:
+        text = file.read()
+    return sorted((_line_of(key, text), key) for key in tomllib.loads(text) if key not in _KNOWN)
+
+
+def _line_of(key: str, text: str) -> int:
+    """The line that begins with a key, or a table of its name."""
+    import re
+
+    head = re.compile(rf"""\s*\[*\s*["']?{re.escape(key)}["']?\s*[\].=]""")
+    return next((at for at, line in enumerate(text.split("\n"), 1) if head.match(line)), 0)

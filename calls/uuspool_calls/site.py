@@ -1,0 +1,129 @@
+"""The site whose spool a command works on."""
+import contextlib
+import os
+import sys
+from collections.abc import Iterator, Sequence
+
+from . import files, forward, settings
+from .contacts import Contacts
+from .errors import LATER, NOT_SET_UP, Failure
+from .journal import Journal
+from .session import Session, user_name
+from .spool import Spool
+
+ROUND = "deliver/round"  # the file whose time is that of the last round of a night
+
+
+class Site:
+    """A site that a command entered: its folder, its spool and its log."""
+
+    def __init__(self, session: Session, found: settings.Settings) -> None:
+        self.session, self.settings = session, found
+        self.folder, self.etc = found.folder, session.etc
+        self.environment = dict(session.environment)
+        self.own = found.name
+        if found.path == f"{found.start}/uuspool.toml":
+            self.environment["UUSPOOL_DIR"] = found.start
+        self.spool = Spool([session.program, "-c", found.path], found.start, self.environment, session.processes)
+        self.contacts = Contacts(self.folder)
+        self.log = Journal(found.log, found.zone, session.say)
+
+    def word(self) -> str:
+        """What identifies this spool. A new one, which gives its numbers again, has another word."""
+        return (files.read_bytes(f"{self.settings.spool}-word") or b"").decode(errors="replace").strip()
+
+    def onward(self, neighbour: str) -> list[str]:
+        """The systems for which mail from a neighbour is handed on."""
+        return list(forward.read(f"{self.etc}/forward", neighbour).systems)
+
+    def lock(self, path: str) -> files.Lock:
+        """The lock of a file below the folder."""
+        with self.writing(os.path.dirname(path)):
+            return files.Lock(f"{self.folder}/{path}")
+
+    @contextlib.contextmanager
+    def writing(self, where: str = "") -> Iterator[None]:
+        """If a file below the folder can't be written, the command ends."""
+        try:
+            yield
+        except OSError as error:
+            place = f"{self.folder}/{where}" if where else self.folder
+            raise Failure(LATER, f"cannot write below {place}: {error.strerror}") from None
+
+    def will_forget_keys(self) -> None:
+        """Says that a key of this site is used, so that a round of deliveries forgets it later. (If this can't be
+        said, it is kept until the next one.)"""
+        files.touch_if_possible(f"{self.folder}/deliver/keys")
+
+
+def enter(session: Session, words: Sequence[str] | None = None) -> Site:
+    """The site of this run. The folder of its spool has to be this user's, so what root runs runs again, with these words
+    or those of this process, as its owner. (The program looks whether the spool is there.)"""
+    found = settings.find(session)
+    _expect_owner(session, found, sys.argv[1:] if words is None else words)
+    site = Site(session, found)
+    with site.writing():
+        for name in "calls", "deliver", "refused":
+            os.makedirs(f"{site.folder}/{name}", exist_ok=True)
+    return site
+
+
+def find_from_anywhere(session: Session) -> settings.Settings:
+    """The settings of the site for root, who may be in somebody's folder: those in the working directory don't count,
+    and what is run next isn't run there."""
+    if folder := session.environment.get("UUSPOOL_DIR"):
+        session.environment["UUSPOOL_DIR"] = os.path.abspath(folder)
+    os.chdir("/")
+    return settings.find(session)
+
+
+def owner_of(found: settings.Settings) -> str:
+    """The user of a site: whose folder its spool is in. (That of the spool's file says nothing, since this user may
+    put a link there.) Settings that a user may write lead root to no site of somebody else."""
+    owner = os.stat(found.folder).st_uid
+    for writer in _writers_of(found) - {owner, os.geteuid()}:
+        name = user_name(writer)
+        raise Failure(NOT_SET_UP, f"{name} may write {found.path}, but {found.folder}, which it names, is not of {name}: correct it")
+    return user_name(owner)
+
+
+def _writers_of(found: settings.Settings) -> set[int]:
+    """Who besides root may write the settings."""
+    return {it.st_uid for it in (os.lstat(found.path), os.stat(found.path), os.stat(os.path.dirname(found.path)))} - {0}
+
+
+def is_named_by_root(found: settings.Settings) -> bool:
+    """Whether root may type a line with a path of the settings, since nobody else wrote it. (Anybody but root risks no more
+    than own files.)"""
+    return os.geteuid() != 0 or not _writers_of(found)
+
+
+def _expect_owner(session: Session, found: settings.Settings, words: Sequence[str]) -> None:
+    """What root made would lock the spool's user out."""
+    try:
+        owner = os.stat(found.folder).st_uid
+    except OSError:
+        raise Failure(NOT_SET_UP, f"{found.folder}, the folder of the spool that {found.path} names, is not there") from None
+    if os.geteuid() != 0:
+        if owner == os.geteuid():
+            return
+        name = user_name(owner)
+        raise Failure(LATER, f"{found.folder} belongs to {name}: runuser -u {name} -- {session.command} ..")
+    # (Somebody else's settings lead root to no folder of root's, also if they name another folder from now on.)
+    name = owner_of(found)
+    if name == user_name(0):
+        return
+    if name.isdecimal():
+        raise Failure(NOT_SET_UP, f"{found.folder} belongs to user {owner}, who has no account")
+    if found.path == f"{found.start}/uuspool.toml":
+        session.environment["UUSPOOL_DIR"] = found.start
+    program = os.path.realpath(sys.argv[0])
+    os.chdir("/")
+    # (In a session of its own what runs as this user can't type at root's terminal.)
+    os.execvpe("setsid", ["setsid", "-w", "runuser", "-u", name, "--", program, *words], session.environment)
+
+
+def has_bytes(path: str) -> bool:
+    """Whether a file is there that isn't empty."""
+    seen = files.look(path)
+    return seen is not None and seen.st_size > 0

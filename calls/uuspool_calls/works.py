@@ -1,0 +1,29 @@
+"""Whether the command of a job still works, although what began it was killed: the number of its process, and when that
+began. No clock that somebody sets has a part in it."""
+import contextlib
+import os
+
+from .files import read_bytes, write_all
+
+_BOOT = "/proc/sys/kernel/random/boot_id"
+_BEGUN = 19  # the place of the time behind the name of the process
+
+
+def note(path: str) -> None:
+    """This process, which becomes the command, says so. (On a full disk it doesn't, and may be begun twice.)"""
+    with contextlib.suppress(OSError):
+        handle = os.open(path, os.O_WRONLY | os.O_CREAT | os.O_TRUNC | os.O_CLOEXEC, 0o600)
+        write_all(handle, b"%d " % os.getpid() + _begun(os.getpid()))
+
+
+def is_so(path: str) -> bool:
+    """Whether the process that a file names still works."""
+    number, _, begun = (read_bytes(path) or b"").partition(b" ")
+    return number.isdigit() and begun != b"" and begun == _begun(int(number))
+
+
+def _begun(process: int) -> bytes:
+    """In which boot a process began, and when. Nothing if it is gone, or has ended and wasn't waited for yet."""
+    name, _, rest = (read_bytes(f"/proc/{process}/stat") or b"").rpartition(b") ")
+    fields = rest.split()
+    return (read_bytes(_BOOT) or b"") + fields[_BEGUN] if name and fields[0] not in (b"Z", b"X") else b""

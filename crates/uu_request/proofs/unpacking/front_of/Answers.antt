@@ -1,0 +1,6 @@
+use Rattle.std.proofs.Common.{◌∙◌, ap, take}
+use Rattle.std.proofs.lemmas.List.{take_min}
+use Rattle.uu_request.proofs.unpacking.front_of.Goals as goal
+
+pub returns : goal.returns
+returns c = c.split_at.ensures.front ∙ ap (λ n. take n c.args.text.now) c.min.ensures ∙ take_min 255 c.args.text.now

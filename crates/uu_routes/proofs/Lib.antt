@@ -1,0 +1,9 @@
+pub mod Order
+pub mod Easing
+pub mod Rounds
+pub mod Naming
+pub mod Numbering
+pub mod Linking
+pub mod Answering
+pub mod Filtering
+pub mod Claiming

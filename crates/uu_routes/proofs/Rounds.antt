@@ -1,0 +1,277 @@
+-- After each round, the least ways of one host more are known.
+use Rattle.std.proofs.Common.{◌≡◌, ℕ, zero, suc, ◌+◌, ◌*◌, ◌<◌, ◌≤◌, ◌⊎◌, ◌||◌, Bool, true, false, List, [], ◌∷◌, ◌++◌, length, get_or, drop, reverse, Option, Some, None, refl, sym, ap, ◌∙◌, inl, inr, subst, arith, All, replicate}
+use Rattle.std.specs.Prelude.{Contains, slice_set}
+use Rattle.std.specs.List.{AllByRecursion}
+use Rattle.std.proofs.lemmas.Bool.{cases_lt}
+use Rattle.std.proofs.lemmas.List.{length-replicate, length-set, get_or-replicate, reverse-append}
+use Rattle.std.proofs.lemmas.List.Elements.{All-contains, recursion_from_All}
+use Rattle.uu_routes.specs.declared.net.Edge.{Edge}
+use Rattle.uu_routes.specs.declared.net.Net.{Net}
+use Rattle.uu_routes.specs.declared.label.Label.{Label}
+use Rattle.uu_routes.specs.Way.{IsWay}
+use Rattle.uu_routes.specs.Links.{most_hops}
+use Rattle.uu_routes.specs.Internal.Labels.{start, label_at, improved, onward, relaxed, followed, rounded}
+use Rattle.uu_routes.specs.Internal.Nets.{Goes, edges_after, IsWayTo, IsFound, AreFound, IsFit, IsFitNet, AreSound, most_cost}
+use Rattle.uu_routes.proofs.Order.{onward_up_to}
+use Rattle.uu_routes.proofs.Easing.{Reaches, reaches_more, In, IsEased, eased}
+
+pub contains_in : {X : Type 0} → (xs : List X) (x : X) → Contains xs x → In xs x
+contains_in {X = X} xs x (k, h, e) = go xs k h e
+  where
+    go : (xs : List X) (k : ℕ) → k < length xs → get_or xs k x ≡ x → In xs x
+    go [] k h e = absurd (omega arith)
+    go (y ∷ ys) zero h e = inl e
+    go (y ∷ ys) (suc k) h e = inr (go ys k (omega arith) e)
+
+pub in_contains : {X : Type 0} → (xs : List X) (x : X) → In xs x → Contains xs x
+in_contains [] x i = absurd i
+in_contains (y ∷ ys) x (inl e) = (0, omega arith, e)
+in_contains (y ∷ ys) x (inr i) = let (k, h, e) = in_contains ys x i in (suc k, omega arith, e)
+
+same_label : (a b : Label) → a.cost ≡ b.cost → a.path ≡ b.path → a ≡ b
+same_label a b e f = ap (λ (c : ℕ). let l : Label = record { cost = c; path = a.path } in l) e ∙ ap (λ (p : List ℕ). let l : Label = record { cost = b.cost; path = p } in l) f
+
+-- ---- the links of one host
+
+record IsFollowed (o : Option Label) (es : List Edge) (old new : List (Option Label)) : Type 0 where
+  size : length new ≡ length old
+  from : (i : ℕ) (l : Label) → label_at new i ≡ Some l → (label_at old i ≡ Some l) ⊎ ((base : Label) × ((e : Edge) × ((o ≡ Some base) × (In es e × ((e.to ≡ i) × (l ≡ onward base e))))))
+  lower : (i : ℕ) (m : Label) → Reaches (label_at old i) m → Reaches (label_at new i) m
+  met : (base : Label) (e : Edge) → o ≡ Some base → In es e → Reaches (label_at new e.to) (onward base e)
+
+some_same : {X : Type 0} → (x y : X) → Some x ≡ Some y → x ≡ y
+some_same x y e = cc
+
+followed_is : (o : Option Label) (es : List Edge) (ls : List (Option Label)) → AllByRecursion (λ e. e.to < length ls) es → IsFollowed o es ls (followed o es ls)
+followed_is None es ls h = record { size = refl; from = λ i l f. inl f; lower = λ i m r. r; met = λ base e f i. absurd cc }
+followed_is (Some base) es ls h = let it = eased base es ls h in record {
+  size = it.size;
+  from = λ i l f. elim (it.from i l f) [ inl g ↦ inl g | inr (e, (j, (to, is))) ↦ inr (base, (e, (refl, (j, (to, is))))) ];
+  lower = it.lower;
+  met = λ other e f i. subst (λ (b : Label). Reaches (label_at (relaxed base es ls) e.to) (onward b e)) (some_same base other f) (it.met e i);
+}
+
+-- ---- a round
+
+pub record IsRounded (links : List (List Edge)) (known old new : List (Option Label)) : Type 0 where
+  pub size : length new ≡ length old
+  pub from : (i : ℕ) (l : Label) → label_at new i ≡ Some l → (label_at old i ≡ Some l) ⊎ ((u : ℕ) × ((base : Label) × ((e : Edge) × ((label_at known u ≡ Some base) × (In (get_or links u []) e × ((e.to ≡ i) × (l ≡ onward base e)))))))
+  pub lower : (i : ℕ) (m : Label) → Reaches (label_at old i) m → Reaches (label_at new i) m
+  pub met : (u : ℕ) (base : Label) (e : Edge) → label_at known u ≡ Some base → In (get_or links u []) e → Reaches (label_at new e.to) (onward base e)
+
+rounded_is : (links : List (List Edge)) (known ls : List (Option Label)) → AllByRecursion (λ es. AllByRecursion (λ e. e.to < length ls) es) links → IsRounded links known ls (rounded links known ls)
+rounded_is [] known ls h = record { size = refl; from = λ i l f. inl f; lower = λ i m r. r; met = λ u base e f i. absurd i }
+rounded_is (es ∷ links) [] ls h = record { size = refl; from = λ i l f. inl f; lower = λ i m r. r; met = λ u base e f i. absurd cc }
+rounded_is (es ∷ links) (o ∷ known) ls h =
+    let one = followed_is o es ls h.0 in
+    let rest = rounded_is links known (followed o es ls) (subst (λ (n : ℕ). AllByRecursion (λ es. AllByRecursion (λ (e : Edge). e.to < n) es) links) (sym one.size) h.1) in
+    record {
+      size = rest.size ∙ one.size;
+      from = λ i l f. elim (rest.from i l f) [
+        | inl g ↦ elim (one.from i l g) [ inl k ↦ inl k | inr (base, (e, (is, r))) ↦ inr (0, (base, (e, (is, r)))) ]
+        | inr (u, r) ↦ inr (suc u, r)
+      ];
+      lower = λ i m r. rest.lower i m (one.lower i m r);
+      met = λ u. elim u as (λ u. (base : Label) (e : Edge) → label_at (o ∷ known) u ≡ Some base → In (get_or (es ∷ links) u []) e → Reaches (label_at (rounded links known (followed o es ls)) e.to) (onward base e)) [
+        | zero ↦ λ base e f i. rest.lower e.to (onward base e) (one.met base e f i)
+        | suc v ↦ λ base e f i. rest.met v base e f i
+      ];
+    }
+
+-- ---- ways
+
+module _ (net : Net) where
+  found_from : (most i : ℕ) (o : Option Label) → ((l : Label) → o ≡ Some l → IsWayTo net most i l) → ((m : Label) → IsWayTo net most i m → Reaches o m) → IsFound net most i o
+  found_from most i None sound reached = reached
+  found_from most i (Some l) sound reached = record { way = sound l refl; least = reached }
+
+  sound_of : (most i : ℕ) (o : Option Label) (l : Label) → IsFound net most i o → o ≡ Some l → IsWayTo net most i l
+  sound_of most i None l f e = absurd cc
+  sound_of most i (Some k) l f e = subst (λ (x : Label). IsWayTo net most i x) (some_same k l e) f.way
+
+  reached_of : (most i : ℕ) (o : Option Label) → IsFound net most i o → (m : Label) → IsWayTo net most i m → Reaches o m
+  reached_of most i None f m w = f m w
+  reached_of most i (Some l) f m w = f.least m w
+
+  wider : (most i : ℕ) (l : Label) → IsWayTo net most i l → IsWayTo net (suc most) i l
+  wider most i l (us, (path, way, h)) = (us, (path, way, omega arith))
+
+  -- ---- the first hops
+
+  at_blank : (n i : ℕ) → label_at (replicate n None) i ≡ None
+  at_blank n i = elim (cases_lt i n) [ inl h ↦ get_or-replicate n i None None h | inr h ↦ past n i h ]
+    where
+      past : (n i : ℕ) → n ≤ i → label_at (replicate n None) i ≡ None
+      past zero i h = refl
+      past (suc n) zero h = absurd (omega arith)
+      past (suc n) (suc i) h = past n i (omega arith)
+
+  pub found_at_start : (ls : List (Option Label)) → IsEased start net.first (replicate (length net.links) None) ls → AreFound net 1 ls
+  found_at_start ls it = record {
+    size = it.size ∙ length-replicate (length net.links) None;
+    each = λ i. found_from 1 i (label_at ls i) (sound i) (reached i);
+  }
+    where
+      one_hop : (i : ℕ) (l : Label) (x : Edge) → In net.first x → x.to ≡ i → l ≡ onward start x → IsWayTo net 1 i l
+      one_hop i l x j to is = subst (λ (n : ℕ). IsWayTo net 1 n l) to (subst (λ (m : Label). IsWayTo net 1 x.to m) (sym is) ([], (refl, (0, (x.cost, (in_contains net.first x j, refl, refl))), omega arith)))
+
+      sound : (i : ℕ) (l : Label) → label_at ls i ≡ Some l → IsWayTo net 1 i l
+      sound i l e = elim (it.from i l e) [
+        | inl f ↦ let g = at_blank (length net.links) i in absurd cc
+        | inr (x, (j, (to, is))) ↦ one_hop i l x j to is
+      ]
+
+      reached : (i : ℕ) (m : Label) → IsWayTo net 1 i m → Reaches (label_at ls i) m
+      reached i m ([], (path, (b, (d, (goes, none, sum))), h)) =
+          let e : Edge = record { to = i; cost = d } in
+          let same : onward start e ≡ m = same_label (onward start e) m (omega arith) (sym path) in
+          subst (λ (x : Label). Reaches (label_at ls i) x) same (it.met e (contains_in net.first e goes))
+      reached i m (u ∷ us, (path, way, h)) = absurd (omega arith)
+
+  -- ---- one round more
+
+  pub found_more : (most : ℕ) (known new : List (Option Label)) → 1 ≤ most → AreFound net most known → IsRounded net.links known known new → AreFound net (suc most) new
+  found_more most known new some found it = record {
+    size = it.size ∙ found.size;
+    each = λ i. found_from (suc most) i (label_at new i) (sound i) (reached i);
+  }
+    where
+      onto : (u i : ℕ) (base : Label) (e : Edge) → IsWayTo net most u base → In (get_or net.links u []) e → e.to ≡ i → IsWayTo net (suc most) i (onward base e)
+      onto u i base e (us, (path, way, h)) j to =
+          subst (λ (n : ℕ). IsWayTo net (suc most) n (onward base e)) to
+          (u ∷ us, (ap (λ p. p ++ e.to ∷ []) path ∙ sym (reverse-append (e.to ∷ []) (u ∷ us)), (base.cost, (e.cost, (in_contains (get_or net.links u []) e j, way, refl))), omega arith))
+
+      sound : (i : ℕ) (l : Label) → label_at new i ≡ Some l → IsWayTo net (suc most) i l
+      sound i l f = elim (it.from i l f) [
+        | inl g ↦ wider most i l (sound_of most i (label_at known i) l (found.each i) g)
+        | inr (u, (base, (e, (at, (j, (to, is)))))) ↦
+            subst (λ (x : Label). IsWayTo net (suc most) i x) (sym is) (onto u i base e (sound_of most u (label_at known u) base (found.each u) at) j to)
+      ]
+
+      by_label : (u i : ℕ) (w m : Label) (d : ℕ) (o : Option Label) → label_at known u ≡ o → Reaches o w → (let e : Edge = record { to = i; cost = d } in In (get_or net.links u []) e × (onward w e ≡ m)) → Reaches (label_at new i) m
+      by_label u i w m d None at r it_is = absurd r
+      by_label u i w m d (Some l) at r (j, same) =
+          let e : Edge = record { to = i; cost = d } in
+          subst (λ (x : Label). Reaches (label_at new i) x) same
+          (reaches_more (label_at new i) (onward l e) (onward w e) (it.met u l e at j) (onward_up_to l w e r))
+
+      reached : (i : ℕ) (m : Label) → IsWayTo net (suc most) i m → Reaches (label_at new i) m
+      reached i m ([], (path, way, h)) = it.lower i m (reached_of most i (label_at known i) (found.each i) m ([], (path, way, omega arith)))
+      reached i m (u ∷ us, (path, (b, (d, (goes, way, sum))), h)) =
+          let e : Edge = record { to = i; cost = d } in
+          let w : Label = record { cost = b; path = reverse (u ∷ us) } in
+          let same : onward w e ≡ m = same_label (onward w e) m (sym sum) (sym (reverse-append (i ∷ []) (u ∷ us)) ∙ sym path) in
+          by_label u i w m d (label_at known u) refl
+          (reached_of most u (label_at known u) (found.each u) w (us, (refl, way, omega arith)))
+          (contains_in (get_or net.links u []) e goes, same)
+
+  -- ---- within the limits
+
+  all_of : {X : Type 0} (P : X → Type 0) (xs : List X) (x : X) → All P xs → Contains xs x → P x
+  all_of P xs x all c = All-contains P xs x all c
+
+  edge_cost : IsFitNet net → (us : List ℕ) (e : Edge) → Contains (edges_after net us) e → e.cost ≤ most_cost
+  edge_cost fit [] e c = (All-contains (IsFit (length net.links)) net.first e fit.first c).cost
+  edge_cost fit (u ∷ us) e c = elim (cases_lt u (length net.links)) [
+    | inl h ↦ (All-contains (IsFit (length net.links)) (get_or net.links u []) e (fit.links u [] h) c).cost
+    | inr h ↦ absurd (none (get_or net.links u []) (beyond net.links u h) c)
+  ]
+    where
+      beyond : (xs : List (List Edge)) (u : ℕ) → length xs ≤ u → get_or xs u [] ≡ []
+      beyond [] u h = refl
+      beyond (x ∷ xs) zero h = absurd (omega arith)
+      beyond (x ∷ xs) (suc u) h = beyond xs u (omega arith)
+
+      none : (es : List Edge) → es ≡ [] → Contains es e → ⊥
+      none es is (k, h, same) = let f : length es ≡ 0 = ap length is in absurd (omega arith)
+
+  way_cost : IsFitNet net → (us : List ℕ) (c : ℕ) → IsWay (Goes net) us c → c ≤ most_cost * length us
+  way_cost fit [] c w = omega (arith, w)
+  way_cost fit (u ∷ us) c (b, (d, (goes, way, sum))) =
+      let e : Edge = record { to = u; cost = d } in
+      let f : d ≤ most_cost = edge_cost fit us e goes in
+      let g : b ≤ most_cost * length us = way_cost fit us b way in
+      omega arith
+
+  label_cost : IsFitNet net → (most i : ℕ) (l : Label) → most ≤ most_hops → IsWayTo net most i l → l.cost ≤ most_cost * most_hops
+  label_cost fit most i l few (us, (path, way, h)) = let f : l.cost ≤ most_cost * length (i ∷ us) = way_cost fit (i ∷ us) l.cost way in omega arith
+
+  links_fit : IsFitNet net → (n : ℕ) → n ≡ length net.links → All (λ es. All (λ e. e.to < n) es) net.links
+  links_fit fit n same k d h = λ j x i. subst (λ m. (get_or (get_or net.links k d) j x).to < m) (sym same) (fit.links k d h j x i).within
+
+  pub are_sound : IsFitNet net → (most : ℕ) (known : List (Option Label)) → most ≤ most_hops → AreFound net most known → AreSound net.links known
+  are_sound fit most known few found = record {
+    size = found.size;
+    within = links_fit fit (length known) found.size;
+    sums = λ u base at j x i. elim (cases_lt u (length net.links)) [
+      | inl h ↦
+          let f : base.cost ≤ most_cost * most_hops = label_cost fit most u base few (sound_of most u (label_at known u) base (found.each u) at) in
+          let g : (get_or (get_or net.links u []) j x).cost ≤ most_cost = (fit.links u [] h j x i).cost in
+          omega arith
+      | inr h ↦ let none : length (get_or net.links u []) ≡ 0 = ap length (beyond net.links u h) in absurd (omega (arith, none, i))
+    ];
+  }
+    where
+      beyond : (xs : List (List Edge)) (u : ℕ) → length xs ≤ u → get_or xs u [] ≡ []
+      beyond [] u h = refl
+      beyond (x ∷ xs) zero h = absurd (omega arith)
+      beyond (x ∷ xs) (suc u) h = beyond xs u (omega arith)
+
+  all_within : (n : ℕ) → All (λ es. All (λ e. e.to < n) es) net.links → AllByRecursion (λ es. AllByRecursion (λ (e : Edge). e.to < n) es) net.links
+  all_within n all = recursion_from_All _ net.links (λ k d h. recursion_from_All _ (get_or net.links k d) (all k d h))
+
+  -- what the code has done
+  pub first_found : IsFitNet net → (old ls : List (Option Label)) (base : Label) (es : List Edge) → old ≡ replicate (length net.links) None → base ≡ start → es ≡ net.first → ls ≡ relaxed base es old → AreFound net 1 ls
+  first_found fit old ls base es was b e is =
+      let blank = replicate (length net.links) None in
+      let same : ls ≡ relaxed start net.first blank = is ∙ (ap (λ x. relaxed x es old) b ∙ (ap (λ x. relaxed start x old) e ∙ ap (relaxed start net.first) was)) in
+      found_at_start ls (subst (λ (new : List (Option Label)). IsEased start net.first blank new) (sym same)
+      (eased start net.first blank (recursion_from_All _ net.first (λ k d h. subst (λ m. (get_or net.first k d).to < m) (sym (length-replicate (length net.links) None)) (fit.first k d h).within))))
+
+  pub next_found : IsFitNet net → (most : ℕ) (known new : List (Option Label)) → 1 ≤ most → AreFound net most known → new ≡ rounded net.links known known → AreFound net (suc most) new
+  next_found fit most known new some found is =
+      found_more most known new some found (subst (λ (ls : List (Option Label)). IsRounded net.links known known ls) (sym is)
+      (rounded_is net.links known known (all_within (length known) (links_fit fit (length known) found.size))))
+
+  -- a round that changes nothing is the last
+  pub steady : IsFitNet net → (most : ℕ) (known : List (Option Label)) → 1 ≤ most → AreFound net most known → known ≡ rounded net.links known known → (more : ℕ) → AreFound net (most + more) known
+  steady fit most known some found same zero = subst (λ n. AreFound net n known) (let e : most ≡ most + zero = omega arith in e) found
+  steady fit most known some found same (suc more) =
+      subst (λ n. AreFound net n known) (let e : suc (most + more) ≡ most + suc more = omega arith in e)
+      (next_found fit (most + more) known known (omega arith) (steady fit most known some found same more) same)
+
+-- ---- one host of a round
+
+relaxed_size : (base : Label) (es : List Edge) (ls : List (Option Label)) → length (relaxed base es ls) ≡ length ls
+relaxed_size base [] ls = refl
+relaxed_size base (e ∷ es) ls = relaxed_size base es (slice_set ls e.to (improved (onward base e) (label_at ls e.to))) ∙ length-set ls e.to (improved (onward base e) (label_at ls e.to))
+
+pub followed_size : (o : Option Label) (es : List Edge) (ls : List (Option Label)) → length (followed o es ls) ≡ length ls
+followed_size None es ls = refl
+followed_size (Some base) es ls = relaxed_size base es ls
+
+pub round_step : (links : List (List Edge)) (known : List (Option Label)) (i : ℕ) (o : Option Label) (es : List Edge) (ls new : List (Option Label)) → length known ≡ length links → i < length known → o ≡ get_or known i o → es ≡ get_or links i es
+    → new ≡ followed o es ls → rounded (drop (i + 1) links) (drop (i + 1) known) new ≡ rounded (drop i links) (drop i known) ls
+round_step links known i o es ls new same within at links_at is =
+    let n : i + 1 ≡ suc i = omega arith in
+    ap (λ m. rounded (drop m links) (drop m known) new) n ∙ go links known i same within at links_at
+  where
+    go : (links : List (List Edge)) (known : List (Option Label)) (i : ℕ) → length known ≡ length links → i < length known → o ≡ get_or known i o → es ≡ get_or links i es → rounded (drop (suc i) links) (drop (suc i) known) new ≡ rounded (drop i links) (drop i known) ls
+    go links [] i same within at links_at = absurd (omega arith)
+    go [] (k ∷ known) i same within at links_at = absurd (omega arith)
+    go (x ∷ links) (k ∷ known) zero same within at links_at = ap (rounded links known) (is ∙ (ap (λ a. followed a es ls) at ∙ ap (λ a. followed k a ls) links_at))
+    go (x ∷ links) (k ∷ known) (suc i) same within at links_at = go links known i (omega arith) (omega arith) at links_at
+
+pub none_known : (known : List (Option Label)) (i : ℕ) (o : Option Label) → i < length known → o ≡ get_or known i o → label_at known i ≡ o
+none_known [] i o h e = absurd (omega arith)
+none_known (k ∷ known) zero o h e = sym e
+none_known (k ∷ known) (suc i) o h e = none_known known i o (omega arith) e
+
+pub edges_known : (links : List (List Edge)) (i : ℕ) (es : List Edge) → i < length links → es ≡ get_or links i es → get_or links i [] ≡ es
+edges_known [] i es h e = absurd (omega arith)
+edges_known (x ∷ links) zero es h e = sym e
+edges_known (x ∷ links) (suc i) es h e = edges_known links i es (omega arith) e
+
+pub none_changed : (a b : Bool) → a || b ≡ false → (a ≡ false) × (b ≡ false)
+none_changed true b e = absurd cc
+none_changed false b e = (refl, e)

@@ -1,0 +1,102 @@
+// The first hops of a site.
+ghost use Rattle.std.specs.Prelude.{◌≡◌, ◌++◌, IfOk};
+ghost use Rattle.std.specs.Option.{option_to_list};
+ghost use Rattle.std.specs.Ordering.{nat_cmp};
+ghost use Rattle.std.specs.Cmp.Lexicographic.{slice_cmp};
+ghost use Rattle.std.specs.BTreeMap.{get};
+ghost use Rattle.uu_routes.specs.Map.{own_links, price, first_cost, first_hop, first_hops};
+ghost use Rattle.uu_routes.specs.Internal.Claims.{AreClaims};
+
+use crate::claims::{Claim, host_for, table_of};
+use crate::link::FirstHop;
+use std::alloc::{AllocError, Global};
+use std::collections::BTreeMap;
+use uu_map::{Cost, Entry, Link};
+use uu_names::SiteName;
+
+/// What a first hop costs, if the site's own entry has no link to it.
+pub const USUAL_COST: u64 = 4000;
+
+fn own_links<'a>(entries: &'a [Entry], own: &SiteName) -> &'a [Link]
+    ensures { result.now ≡ own_links entries.now own.now }
+{
+    for entry in entries {
+        if entry.host == *own {
+            return entry.links.as_slice();
+        }
+    }
+    &[]
+}
+
+fn price(cost: Cost) -> Option<u64>
+    ensures { result ≡ price cost }
+{
+    match cost {
+        Cost::Value(cost) => Some(cost),
+        Cost::Dead => None,
+    }
+}
+
+fn first_cost(
+    entries: &[Entry],
+    table: &BTreeMap<SiteName, Claim>,
+    host: &SiteName,
+    links: &[Link],
+) -> Option<u64>
+    requires { AreClaims entries.now (get (slice_cmp nat_cmp) table.now) }
+    ensures { result ≡ first_cost entries.now host.now links.now }
+{
+    for link in links {
+        if *host_for(entries, table, &link.to) == *host {
+            return price(link.cost);
+        }
+    }
+    Some(USUAL_COST)
+}
+
+fn first_hop(
+    entries: &[Entry],
+    table: &BTreeMap<SiteName, Claim>,
+    links: &[Link],
+    system: &SiteName,
+) -> Result<Option<FirstHop>, AllocError>
+    requires { AreClaims entries.now (get (slice_cmp nat_cmp) table.now) }
+    ensures { IfOk result (λ hop. hop ≡ first_hop entries.now links.now system.now) }
+{
+    let host = host_for(entries, table, system);
+    match first_cost(entries, table, host, links) {
+        None => Ok(None),
+        Some(cost) => {
+            let to = host.clone()?;
+            Ok(Some(FirstHop { to, cost }))
+        }
+    }
+}
+
+fn push_if(found: &mut Vec<FirstHop>, hop: Option<FirstHop>) -> Result<(), AllocError>
+    ensures { IfOk result (λ _. found.new.items ≡ found.old.items ++ option_to_list hop) }
+{
+    if let Some(hop) = hop {
+        found.push(hop)?;
+    }
+    Ok(())
+}
+
+/// The first hops to the site's own systems.
+pub(crate) fn first_hops(
+    alloc: Global,
+    entries: &[Entry],
+    own: &SiteName,
+    systems: &[SiteName],
+) -> Result<Vec<FirstHop>, AllocError>
+    ensures { IfOk result (λ hops. hops.items ≡ first_hops entries.now own.now systems.now) }
+{
+    let table = table_of(alloc, entries)?;
+    let links = own_links(entries, own);
+    let mut found = Vec::new(alloc);
+    for system in systems {
+        let hop = first_hop(entries, &table, links, system)?;
+        push_if(&mut found, hop)?;
+    }
+    Ok(found)
+}

@@ -1,0 +1,63 @@
+// Names and their numbers.
+ghost use Rattle.std.specs.Prelude.{◌≡◌, ◌↔◌, ◌++◌, ℕ, List, IfOk, Contains, IsPermutation, IsSorted, map};
+ghost use Rattle.std.specs.List.Sorted.{IsStrictlySortedBy};
+ghost use Rattle.uu_routes.specs.Links.{name_cmp};
+ghost use Rattle.uu_routes.specs.Internal.Numbers.{number_of, hop_to, link_from, link_to};
+
+use crate::link::{FirstHop, SiteLink};
+use std::alloc::{AllocError, Global};
+use uu_names::SiteName;
+
+/// The number of a name, or how many names there are, if it isn't one of them.
+pub(crate) fn number_of(names: &[SiteName], name: &SiteName) -> usize
+    requires { IsStrictlySortedBy name_cmp names.now }
+    ensures { result ≡ number_of names.now name.now }
+{
+    match names.binary_search(name) {
+        Ok(place) => place,
+        Err(_) => names.len(),
+    }
+}
+
+// Each name that is mentioned, with repeats.
+fn mentioned(
+    alloc: Global,
+    first: &[FirstHop],
+    links: &[SiteLink],
+) -> Result<Vec<SiteName>, AllocError>
+    ensures { IfOk result (λ names. names.items ≡ (map hop_to first.now ++ map link_from links.now) ++ map link_to links.now) }
+{
+    let mut names = Vec::new(alloc);
+    for hop in first {
+        names.push(hop.to.clone()?)?;
+    }
+    for link in links {
+        names.push(link.from.clone()?)?;
+    }
+    for other in links {
+        names.push(other.to.clone()?)?;
+    }
+    Ok(names)
+}
+
+fn sorted(mut names: Vec<SiteName>) -> Result<Vec<SiteName>, AllocError>
+    ensures same { IfOk result (λ v. IsPermutation names.items v.items) }
+    ensures sorted { IfOk result (λ v. IsSorted name_cmp v.items) }
+{
+    names.sort()?;
+    Ok(names)
+}
+
+/// The names that are mentioned, each once, in order.
+pub(crate) fn names_of(
+    alloc: Global,
+    first: &[FirstHop],
+    links: &[SiteLink],
+) -> Result<Vec<SiteName>, AllocError>
+    ensures same { IfOk result (λ v. (name : List ℕ) → Contains v.items name ↔ Contains ((map hop_to first.now ++ map link_from links.now) ++ map link_to links.now) name) }
+    ensures order { IfOk result (λ v. IsStrictlySortedBy name_cmp v.items) }
+{
+    let mut names = sorted(mentioned(alloc, first, links)?)?;
+    names.dedup();
+    Ok(names)
+}

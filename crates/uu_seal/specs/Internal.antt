@@ -1,0 +1,2 @@
+-- Words that only contracts within the crate cite.
+pub mod Forms

@@ -1,0 +1,186 @@
+# shellcheck shell=sh
+# What uux, uucp, uustat, uuname and uulog share: reading options, asking the spool, and the statuses,
+# which are those of sysexits. Words come from strangers. Each is passed on as one word, after `=`
+# or `--`, and no shell reads it again.
+
+set -uf
+bin=/usr/local/bin
+front=${0##*/}
+usage=64   # the words are wrong
+refused=69 # the spool refuses it, or has no form for it
+later=75   # try again
+export LC_ALL=C
+
+# A local user may not enter the spool's folder, so he asks by sudo, which says who he is. Lines of root
+# run as the folder's owner (see below).
+spool=$bin/uuspool member='' common=/var/spool/uuspool
+if [ -z "${UUSPOOL_DIR-}" ] && [ -d "$common" ] && ! [ -O "$common" ] && ! [ -O uuspool.toml ] && ! [ -O / ]; then
+    member=yes spool="sudo -n -u $(stat -c %U "$common") -- $lib/for-user"
+fi
+
+# If not all pieces of a file are queued, those that are go. If a shell can't go on, for example because it can't
+# fork, it ends with a status of its own.
+queued='' stopped=''
+end() {
+    status=$?
+    for number in $queued; do $spool --as="$user" kill "$number" >/dev/null 2>&1; done
+    case $status in 0 | "$usage" | "$refused" | "$later") ;; *) exit "$later" ;; esac
+}
+trap end EXIT
+
+fail() {
+    printf '%s: %s\n' "$front" "$2" >&2
+    exit "$1"
+}
+
+# Calls `option NAME VALUE` of the script for each option of the words: `-g` or `--grade`. $valued has the names
+# with a value. $used is then the number of words that were options.
+read_options() {
+    total=$#
+    while [ $# -gt 0 ]; do
+        word=$1
+        case $word in
+        --) shift && break ;;
+        -h | --help) sed -n '2,/^[^#]/s/^# \{0,1\}//p' "$0" && exit ;; # (the comment at the head of the script)
+        --*=?*) name=${word%%=*} value=${word#*=} ;;
+        - | --*) name=$word value='' ;;
+        -*) value=${word#-?} name=${word%"$value"} ;;
+        *) break ;;
+        esac
+        shift
+        case " $valued " in
+        *" $name "*)
+            # If a value is empty, its option may come right before the `-` that means standard input.
+            if [ -z "$value" ] && [ "${1-}" != - ]; then
+                [ $# -gt 0 ] || fail "$usage" "$name wants a value"
+                value=$1
+                shift
+            fi
+            ;;
+        *)
+            case $word in --*=* | -?-*) unknown "$word" ;; esac
+            # What is behind a letter are more letters.
+            [ -z "$value" ] || set -- "-$value" "$@"
+            ;;
+        esac
+        option "$name" "$value"
+    done
+    used=$((total - $#))
+}
+
+unknown() { fail "$usage" "no option $1: see $front --help"; }
+
+# Asks the spool. $said is what the program printed. If the request fails, it prints the error and ends with a
+# status of sysexits. The program's status 2 means faulty words or faulty settings. Faulty settings are the
+# site's fault, so a message waits until they are corrected. They fail a question with right words, too.
+ask() {
+    said=$($spool "$@" 2>&1) && return
+    case $? in
+    1) status=$refused ;;
+    2) if $spool name >/dev/null 2>&1; then status=$usage; else status=$later; fi ;;
+    *) status=$later ;;
+    esac
+    printf '%s\n' "$said" >&2
+    case $member:$said in yes:'sudo: '*) fail "$status" 'members of the group uuspool may do this, from their next login on' ;; esac
+    exit "$status"
+}
+
+# Prints an answer.
+print() {
+    ask "$@"
+    [ -z "$said" ] || printf '%s\n' "$said" || fail "$later" 'cannot write'
+}
+
+# What `uuspool site` says after a word, for example `folder`. Anybody may ask this, because it opens no spool.
+site_says() {
+    site=$("$bin/uuspool" site 2>&1) || fail "$later" "${site#uuspool: }"
+    printf '%s\n' "$site" | sed -n "s/^$1 //p"
+}
+
+# Lines of root run as the user to whom the spool's folder belongs, because files of root would lock that
+# user out. They count as root's. Nothing in the working directory counts then.
+act_as_owner() {
+    settings=$(site_says settings 2>/dev/null) || return 0
+    folder=$(site_says folder)
+    [ -d "$folder" ] || return 0
+    expect_one_owner
+    ! [ -O "$folder" ] || return 0
+    [ "$settings" = /etc/uuspool/uuspool.toml ] || export UUSPOOL_DIR="${settings%/*}"
+    spool="setsid -w runuser -u $(stat -L -c %U -- "$folder") -- env -C / $bin/uuspool"
+}
+
+# Settings that a user may write lead root to no site of somebody else.
+expect_one_owner() {
+    owner=$(stat -L -c %U -- "$folder")
+    for writer in $(stat -c %U -- "$settings" && stat -L -c %U -- "$settings" "${settings%/*}"); do
+        case $writer in root | "$owner") continue ;; esac
+        fail "$later" "$writer may write $settings, but $folder, which it names, is not of $writer: correct it"
+    done
+}
+
+# queue KIND WORD..: queues a job of $user for $system. $number is then its number.
+queue() {
+    kind=$1
+    shift
+    ask --as="$user" "$kind" -g "$grade" -- "$system" "$@"
+    number=${said#job } number=${number%%[!0-9]*}
+}
+
+# queue_file KIND WORD..: queues the file $input, which messages call $its_name, as a job of this kind. It goes
+# in pieces if it is larger than a job, or if a piece has to say $wishes.
+queue_file() {
+    look_at_pieces
+    size=$(stat -L -c %s -- "$input") || fail "$later" "$its_name: cannot read"
+    if [ "$size" -gt "$most" ] || [ -n "$wishes" ]; then
+        # shellcheck disable=SC2086 # (no wish has a blank in it)
+        queue_pieces "$@" $wishes
+    else
+        queue "$@" <"$input" || fail "$later" "$its_name: cannot read"
+    fi
+    [ -z "$numbers" ] || printf '%s\n' "$number"
+}
+
+# Finds how many bytes a job for the system may have, and how many a piece has. If its entry names those of
+# a piece, no larger job goes whole.
+look_at_pieces() {
+    most=1048576 piece=1000000 entry=${UUSPOOL_ETC:-/etc/uuspool}/calls/$system
+    [ -f "$entry" ] && [ -r "$entry" ] && ! [ -x "$entry" ] || return 0
+    named=$(awk -F '[=#]' '
+        $1 ~ /^[ \t]*"?piece"?[ \t]*$/ { gsub(/[ \t_]/, "", $2); if ($2 ~ /^[0-9]+$/ && $2 + 0 >= 1000 && $2 + 0 <= 1048576) named = $2 }
+        END { print named }' "$entry")
+    [ -z "$named" ] || most=$named piece=$named
+}
+
+# Each piece says which file it belongs to, by sum, size, length of a piece and a mark of its own, where it
+# begins, and what is to be done with the whole. The number of the first is that of the file.
+queue_pieces() {
+    trap 'stopped=yes' HUP INT TERM
+    sum=$(sha256sum <"$input") && read -r mark </proc/sys/kernel/random/uuid || fail "$later" "$its_name: cannot read"
+    file=${sum%% *}.$size.$piece.$mark at=0
+    while [ "$at" -eq 0 ] || [ "$at" -lt "$size" ]; do
+        read_piece
+        queue exec uuspool-piece "$file" "$at" "$@" <&4
+        queued="$queued $number" at=$((at + piece))
+        [ -z "$stopped" ] || exit "$later"
+    done
+    number=${queued# } number=${number%% *} queued=''
+    trap - HUP INT TERM
+}
+
+# Reads a piece into a file without a name, which is descriptor 4. A piece is queued only if it is whole.
+read_piece() {
+    wanted=$((size - at))
+    [ "$wanted" -le "$piece" ] || wanted=$piece
+    make_file
+    dd if="$input" bs="$piece" skip="$((at / piece))" count=1 iflag=fullblock status=none >&3 &&
+        [ "$(stat -L -c %s /dev/fd/3)" = "$wanted" ] ||
+        fail "$later" "$its_name: a piece of it cannot be read whole, because it became shorter or ${TMPDIR:-/tmp} is full: queue it again"
+}
+
+# Makes a file without a name. It is written by descriptor 3, and read by 4.
+make_file() {
+    made=$(mktemp) && command exec 3>"$made" 4<"$made" && rm -f -- "$made" ||
+        fail "$later" "$its_name needs room below ${TMPDIR:-/tmp}, where no file can be made"
+}
+
+if [ -O / ]; then act_as_owner; fi
