@@ -65,7 +65,9 @@ class Arrivals(Folder):
             os.mkdir(f"{self.folder}/{name}")
         self.put("etc/commands", f"rmail {self.folder}/rmail\n")
         self.put("rmail", f'#!/bin/sh\necho "$UUSPOOL_JOB $*" >>{self.folder}/ran\ncat >{self.folder}/mail\n[ ! -e {self.folder}/busy ] || exit 75\n', 0o755)
-        self.site = site(self.folder, StandIn(), UUSPOOL_PUBLIC=f"{self.folder}/public", UUSPOOL_COMMAND_LIMIT="5")
+        self.put("sendmail", f"#!/bin/sh\ncat >{self.folder}/letter\n", 0o755)
+        places = {"UUSPOOL_PUBLIC": f"{self.folder}/public", "UUSPOOL_SENDMAIL": f"{self.folder}/sendmail"}
+        self.site = site(self.folder, StandIn(), **places, UUSPOOL_COMMAND_LIMIT="5")
         self.session = self.site.session
         self.session.processes = type(self.session.processes).__mro__[1]()
         self.delivery = Delivery(self.session, "mysite", (self.folder, f"{self.folder}/refused"), self.session.environment)
@@ -316,6 +318,7 @@ class Letters(Refused):
         for at in 0, 1000, 2000:
             self.give(at, "send", "/x", "~/in/x", "-m", "-nbob")
         self.assertEqual([("mail", "--once=mysite!3!came", "--", "a!ann")], self.letters())
+        self.assertIn(b"\nTo: bob\nSubject: a file from a!ann\n", self.bytes_of("letter"))
         self.assertEqual([["about"]], self.kept())
 
     def test_who_cannot_be_told_is_told_later(self) -> None:
