@@ -257,6 +257,13 @@ class Refused(Arrivals):
         self.assertEqual(0, self.deliverer.deliver(1))
         self.assertEqual(["1.untold"], os.listdir(f"{self.folder}/refused"))
 
+    def test_a_file_that_cannot_be_forgotten_now_is_delivered(self) -> None:
+        for at in 0, 1000:
+            self.give(at)
+        with mock.patch.object(Delivery, "forget", side_effect=Delay("another process has its lock")):
+            self.assertEqual(0, self.give(2000))
+        self.assertEqual((("done", "mysite", "3"), DATA), (self.spool.asked[-1], self.bytes_of("public/a/in/x")))
+
     def test_a_file_of_which_no_more_comes(self) -> None:
         self.give(0)
         self.give(2000)

@@ -283,7 +283,8 @@ class Deliverer:
         records.forget(self._folder, job.number)
         files.remove(f"{self._folder}/{job.number}{_WORKS}")
         if outcome.is_last:
-            self._delivery.forget(self._delivered(job, -1))
+            with contextlib.suppress(Delay):  # (what stays goes after 30 days)
+                self._delivery.forget(self._delivered(job, -1))
         return 0
 
     def _tell(self, job: Job, outcome: Outcome) -> None:
