@@ -52,6 +52,15 @@ class Line(Folder):
         progress.watch(300, bytearray())
         self.assertEqual(79, len(self.shown()[0]))
 
+    def test_a_terminal_that_is_gone_ends_no_call(self) -> None:
+        progress = Progress(self.follower, "duke", self.jobs)
+        with open(os.devnull, "rb") as nothing:
+            os.dup2(nothing.fileno(), self.leader)  # (a terminal whose other end is closed fails each write)
+        progress.begin(BUNDLE)
+        progress.watch(300, bytearray())
+        with self.assertRaises(OSError):
+            os.write(self.follower, b"x")
+
     def test_only_a_call_by_hand_shows_it_on_a_terminal(self) -> None:
         for isatty, night, shown in (True, False, True), (True, True, False), (False, False, False):
             spool = StandIn([parcel()])

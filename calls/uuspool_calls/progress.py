@@ -1,4 +1,5 @@
 """A line on a terminal that says how far a call is."""
+import contextlib
 import os
 from collections.abc import Sequence
 
@@ -60,9 +61,8 @@ class Progress:
         return ", ".join(parts)
 
     def _write(self, line: str) -> None:
-        """In the place of the line before. One that is longer than the terminal would stay."""
-        try:
+        """In the place of the line before. One that is longer than the terminal would stay. If the terminal is gone, the
+        call goes on without it."""
+        with contextlib.suppress(OSError):
             columns = os.get_terminal_size(self._handle).columns or _COLUMNS
-        except OSError:
-            columns = _COLUMNS
-        write_all(self._handle, _CLEAR + line[: columns - 1].encode())
+            write_all(self._handle, _CLEAR + line[: columns - 1].encode())
