@@ -245,7 +245,7 @@ class Files(Folder):
         known.change("duke", same="x")
         self.assertEqual(contacts.Contact(held=True, called=7, same="x"), known.find("duke"))
         self.assertEqual((["duke"], ["duke.json"]), (known.held(), os.listdir(f"{self.folder}/calls")))
-        for text in b"", b"{", b"[]", b'{"held": "yes", "called": null, "more": 1}':
+        for text in b"", b"{", b"[]", b'{"held": "yes", "called": null, "more": 1, "other": null}':
             self.put("calls/duke.json", text)
             self.assertEqual(contacts.Contact(), known.find("duke"), text)
 

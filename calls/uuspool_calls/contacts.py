@@ -38,9 +38,8 @@ class Contacts:
 
     def find(self, neighbour: str) -> Contact:
         """What is known of a neighbour."""
-        kept = files.read_record(f"{self._folder}/{neighbour}{_END}")
-        known = {name: value for name, value in kept.items() if type(value) is type(Contact._field_defaults.get(name))}
-        return Contact(**known)
+        kept, usual = files.read_record(f"{self._folder}/{neighbour}{_END}"), Contact._field_defaults
+        return Contact(**{name: value for name, value in kept.items() if name in usual and type(value) is type(usual[name])})
 
     def change(self, neighbour: str, **changes: int | str | float) -> None:
         """Keeps what is known now. OSError if that can't be."""
