@@ -281,8 +281,9 @@ class Forecasts(Folder):
         jobs = [LINE.replace("7 duke ann N", f"{number} {system} ann {grade}").replace(" 5 ", " 90000 ") for number, system, grade in ((1, "duke", "N"), (2, "duke", "C"), (3, "unc", "C"), (4, "duke", "N"))]
         self.spool = StandIn([parcel(line, bytes(90_000)) for line in jobs])
         self.site = site(self.folder, self.spool)
-        self.put("lib/uuspool/carriers/uucico", "", 0o755)
-        self.put("etc/calls/duke", 'carrier = "uucico"\nlimit = 100\n')
+        for name in "ssh", "uucico":
+            self.put(f"lib/uuspool/carriers/{name}", "", 0o755)
+        self.put("etc/calls/duke", 'carrier = "ssh"\nlimit = 100\n')
 
     def told(self, **words: object) -> list[str]:
         self.site.session.printed.clear()
@@ -309,6 +310,8 @@ class Forecasts(Folder):
             ],
             self.told()[3:],
         )
+        self.put("etc/calls/duke", 'carrier = "uucico"\nlimit = 100\n')  # (its neighbour can't say which jobs came)
+        self.assertTrue(self.told()[3].startswith("It takes about 15 min"))
 
     def test_nothing_says_how_to_call(self) -> None:
         os.remove(f"{self.folder}/etc/calls/duke")

@@ -12,9 +12,10 @@ from .traffic import rate_of, shown_jobs, shown_size, shown_time
 def tell(site: Site, neighbour: str, jobs: Sequence[Job]) -> None:
     """Prints it. What waits at the neighbour isn't known here."""
     try:
-        limit = carriers.find(site.session, neighbour).limit or site.session.call_limit
+        carrier = carriers.find(site.session, neighbour)
     except carriers.NoCarrier as why:
         raise Failure(NOT_SET_UP, str(why)) from None
+    limit = carrier.limit or site.session.call_limit
     contact, say = site.contacts.find(neighbour), site.session.print
     total = sum(job.size for job in jobs)
     say(f"{neighbour}: {shown_jobs(len(jobs))}, {shown_size(total)} would go")
@@ -23,7 +24,7 @@ def tell(site: Site, neighbour: str, jobs: Sequence[Job]) -> None:
         by_grade[job.grade].append(job)
     for grade in sorted(by_grade):
         say(f"grade {grade}: {shown_jobs(len(by_grade[grade]))}, {shown_size(sum(job.size for job in by_grade[grade]))}")
-    if contact.broken or contact.begun:
+    if (contact.broken or contact.begun) and carrier.answers_at_once(site.session):
         say(f"The last call broke, so this one first asks {neighbour} which jobs came.")
     rate = rate_of(contact)
     if not rate:
