@@ -6,10 +6,10 @@ from unittest.mock import patch
 
 from uuspool_calls import call, carriers, check, expire, files, hold, move, night, setup, sysfile, taylor
 from uuspool_calls.carriers import folder, ssh, uucico
-from uuspool_calls.errors import Failure
+from uuspool_calls.errors import Failure, Stopped
 from uuspool_calls.jobs import Job
 from uuspool_calls.pieces import COMMAND
-from uuspool_calls.processes import Ended
+from uuspool_calls.processes import Child, Children, Ended, Processes
 from uuspool_calls.site import Site, enter
 
 from .standins import LINE, Folder, Quiet, StandIn, parcel, site
@@ -383,6 +383,27 @@ class Small(Folder):
                 session = Quiet(self.folder)
                 check.Check(session)._check_cleaner(f"{self.folder}/public")
                 self.assertEqual(found, len(session.printed), (mode, days))
+
+
+class Rounds(Folder):
+    def test_rounds_that_ended_are_forgotten(self) -> None:
+        made: list[Children] = []
+        known: list[int] = []
+
+        class Kept(Children):
+            def __init__(self, processes: Processes, at_once: int) -> None:
+                super().__init__(processes, at_once)
+                made.append(self)
+
+        def begun(site: Site, words: list[str]) -> Child:
+            known.append(len(made[0].ended))
+            if len(known) == 4:
+                raise Stopped
+            return Child(lambda: 0)
+
+        with mock.patch.multiple(night, Children=Kept, _begun=begun, _MINUTE=0.2), self.assertRaises(Stopped):
+            night._go_on(site(self.folder, StandIn()), None)
+        self.assertEqual([0] * 4, known)
 
 
 class Entering(Folder):

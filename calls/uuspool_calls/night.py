@@ -43,6 +43,7 @@ def _go_on(site: Site, minutes: int | None) -> None:
         while True:
             rounds.start(partial(_begun, site, words))
             rounds.reap(_MINUTE)
+            rounds.ended.clear()  # (this goes on for years)
 
 
 def _begun(site: Site, words: Sequence[str]) -> Child:
