@@ -3,12 +3,14 @@ import json
 import os
 import time
 from functools import partial
+from unittest import mock
 
 from uuspool_calls import commands, deliver, records, works
 from uuspool_calls.errors import Delay, Refusal
 from uuspool_calls.files import Lock, memory_file
 from uuspool_calls.jobs import Job
-from uuspool_calls.processes import Program
+from uuspool_calls.processes import Child, Program
+from uuspool_calls.session import Session
 
 from .standins import LINE, Folder, StandIn, parcel, site
 
@@ -90,6 +92,23 @@ class Records(Folder):
         users = ["unc!a", "unc!b", "duke!c", "unc!d", "ann", "duke!e"]
         jobs = [Job.read(LINE.replace("7", str(at), 1).replace("ann", user)) for at, user in enumerate(users)]
         self.assertEqual([0, 2, 4, 1, 5, 3], [it.number for it in deliver.by_turns(jobs)])
+
+
+class Rounds(Folder):
+    def test_a_round_that_is_over_begins_no_more_deliveries(self) -> None:
+        here, begun = site(self.folder, StandIn()), []
+
+        def delivery(session: Session, deliverer: deliver.Deliverer, number: int) -> Child:
+            begun.append(number)
+            return Child(lambda: 0)
+
+        with Lock(f"{self.folder}/deliver/round.lock") as lock:
+            for seconds, count in (60, 3), (0, 0):
+                begun.clear()
+                with mock.patch.multiple(deliver, _ROUND=seconds, _delivery=delivery):
+                    ended = deliver._deliver_all(here, deliver.Deliverer(here), [1, 2, 3], lock)
+                self.assertEqual(([1, 2, 3][:count], count), (begun, len(ended)))
+        self.assertEqual(["3 jobs wait for the next round"], here.session.said)
 
 
 class Clean(Folder):

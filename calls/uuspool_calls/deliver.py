@@ -78,7 +78,7 @@ def _refuse_unfinished(site: Site) -> None:
 def _deliver_all(site: Site, deliverer: "Deliverer", numbers: Sequence[int], lock: files.Lock) -> list[tuple[int, int]]:
     """Delivers these jobs while the round goes on. Each has the status with which its delivery ended. The next round
     waits for no command that takes longer than usual."""
-    ends = clock.running() + site.session.setting("UUSPOOL_ROUND_LIMIT", _ROUND)
+    ends = clock.running() + _ROUND
     usual = site.session.command_limit + _MARGIN
     with Children(site.session.processes, max(1, site.session.at_once - _still_working(site.folder))) as children:
         for begun, number in enumerate(numbers):
