@@ -8,21 +8,6 @@ from .pieces import Piece, name_of, whole_of
 from .values import NamedTuple
 
 
-class Part(NamedTuple):
-    """A piece of a file: which file, the sum of its bytes, the piece's place there, and the job of the whole."""
-
-    file: tuple[str, ...]
-    sum: str
-    at: int
-    whole: Job
-
-    @staticmethod
-    def of(job: Job) -> "Part | None":
-        """The piece that a job is."""
-        piece = Piece.of(job)
-        return piece and Part((job.user, piece.file, *piece.words), piece.sum, piece.at, whole_of(job))
-
-
 class Whole(NamedTuple):
     """A job, or all pieces of a file, in their order."""
 
@@ -33,19 +18,18 @@ class Whole(NamedTuple):
     @staticmethod
     def all_of(jobs: Sequence[Job]) -> Iterator["Whole"]:
         """These jobs, and the files of which all pieces are among them. (The rest of a file is still being queued.)"""
-        files: dict[tuple[str, ...], dict[int, Job]] = collections.defaultdict(dict)
+        files: dict[str, dict[int, Job]] = collections.defaultdict(dict)
         for job in jobs:
-            part = Part.of(job)
-            if part is None:
+            piece = Piece.of(job)
+            if piece is None:
                 yield Whole(job, (job,))
                 continue
-            pieces = files[part.file]
-            pieces.setdefault(part.at, job)
-            if sum(it.size for it in pieces.values()) == part.whole.size:
+            pieces = files[name_of(job)]
+            pieces.setdefault(piece.at, job)
+            if sum(it.size for it in pieces.values()) == piece.size:
                 first = min(pieces.values(), key=lambda it: it.number)
-                whole = part.whole._replace(number=first.number, grade=first.grade, day=first.day, hour=first.hour)
-                yield Whole(whole, tuple(pieces[at] for at in sorted(pieces)), part.sum)
-                del files[part.file]
+                yield Whole(whole_of(first), tuple(pieces[at] for at in sorted(pieces)), piece.sum)
+                del files[name_of(job)]
 
 
 class Listed(NamedTuple):
