@@ -290,11 +290,11 @@ class Deliverer:
     def _tell(self, job: Job, outcome: Outcome) -> None:
         """The letters that the sender of a file asked for. (The second may come twice after a stop.)"""
         mailroom, own, to = Mailroom(self._site), self._own, outcome.wishes.notify
-        place = self._delivery.public_of(job.sender).place
         try:
             if outcome.wishes.mail and not job.is_letter:
                 mailroom.send_word(job.user, f"came: {outcome.what}", f"Your file came to {own}: {outcome.what}.", f"{own}!{job.number}!came")
             if to:
+                place = self._delivery.public_of(job.sender).place
                 sentence = f"A file of {job.user} came: {outcome.what}. It is below {place}."
                 mailroom.send_word(to, f"a file from {job.user}", sentence)
         except NotSent as error:

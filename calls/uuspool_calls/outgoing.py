@@ -33,7 +33,7 @@ def queue(site: Site, what: Parcelled, content: int) -> None:
         site.will_forget_keys()
         site.spool.ask(*line[:3], f"--once={what.key}", *line[3:], *words, given=content)
         return
-    waiting = {job.words: job for job in site.spool.waiting(what.system) if job.user == what.user}
+    waiting = {job.words for job in site.spool.waiting(what.system) if job.user == what.user}
     for piece, data in _cut(content, length or SIZE, what):
         if tuple(piece.line()) not in waiting:
             site.spool.ask_once(*line, *piece.line(), given=data)

@@ -12,7 +12,6 @@ from . import files
 from .errors import LATER, Failure
 from .session import acting_as
 
-_PATIENCE = 60  # seconds
 _FIRST_PAUSE, _LONGEST_PAUSE = 0.001, 0.05  # seconds
 _OPEN = os.O_RDWR | os.O_NOFOLLOW | os.O_NOCTTY | os.O_CLOEXEC
 _LOCK = struct.pack("hhqqi4x", fcntl.F_WRLCK, os.SEEK_SET, 0x40000000, 512, 0)  # the bytes that SQLite locks
@@ -23,7 +22,7 @@ class Turn(files.Lock):
     """The lock on SPOOL-lock, in which the number of this process is written. For root the owner of its folder opens it, who
     may have put a link on the way."""
 
-    def __init__(self, spool: str, seconds: int = _PATIENCE, owner: str = "") -> None:
+    def __init__(self, spool: str, seconds: int, owner: str = "") -> None:
         self.path, self.seconds, self._owner = f"{spool}-lock", seconds, owner
         with acting_as(owner):
             self._handle = os.open(self.path, _OPEN | os.O_CREAT, 0o600)

@@ -3,7 +3,7 @@ began. No clock that somebody sets has a part in it."""
 import contextlib
 import os
 
-from .files import read_bytes, write_all
+from .files import opened, read_bytes, write_all
 
 _BOOT = "/proc/sys/kernel/random/boot_id"
 _BEGUN = 19  # the place of the time behind the name of the process
@@ -11,8 +11,7 @@ _BEGUN = 19  # the place of the time behind the name of the process
 
 def note(path: str) -> None:
     """This process, which becomes the command, says so. (On a full disk it doesn't, and may be begun twice.)"""
-    with contextlib.suppress(OSError):
-        handle = os.open(path, os.O_WRONLY | os.O_CREAT | os.O_TRUNC | os.O_CLOEXEC, 0o600)
+    with contextlib.suppress(OSError), opened(path, os.O_WRONLY | os.O_CREAT | os.O_TRUNC) as handle:
         write_all(handle, b"%d " % os.getpid() + _begun(os.getpid()))
 
 
