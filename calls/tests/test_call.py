@@ -260,9 +260,9 @@ class Calls(Folder):
 
     def test_a_full_disk_ends_no_call_that_was_made(self) -> None:
         os.rmdir(f"{self.folder}/calls")
+        self.put("calls")  # (so nothing can be kept)
         self.make([JOB, NOTHING], BACK)
         self.assertEqual(("done", "duke"), self.spool.asked[-1])
-
 
     def test_what_the_last_calls_carried_is_kept(self) -> None:
         big = JOB + bytes(20_000)
