@@ -3,7 +3,7 @@ use Rattle.std.proofs.Common.{◌≡◌, ◌∙◌, ◌==◌, if◌then◌else�
 use Rattle.std.specs.Prelude.{IfOk}
 use Rattle.std.specs.List.{flat_map}
 use Rattle.uu_report.specs.declared.logged.Change.{Change}
-use Rattle.uu_report.specs.Logs.{answered_lines, lines_of, one_lines, part_lines, parts_lines, word_at, words_of}
+use Rattle.uu_report.specs.Logs.{answered_lines, first_line, lines_of, one_lines, part_lines, parts_lines, words_of}
 
 -- the texts of values that are seen otherwise
 pub mapped : {A B : Type 0} (text : B → List ℕ) (seen : A → B) (xs : List A) → flat_map text (map seen xs) ≡ flat_map (λ x. text (seen x)) xs
@@ -24,12 +24,12 @@ module _ (moment : List ℕ) (it : Change) (answer : List ℕ) (lines : List (Li
   pub of_parts : (length parts == 0) ≡ false → parts ≡ answered_lines moment it answer
   of_parts some =
       let is : (length (parts_lines moment it answer) == 0) ≡ false = ap (λ l. length l == 0) (sym same) ∙ some in
-      same ∙ ap (λ (b : Bool). if b then one_lines moment it (words_of (word_at (lines_of answer) 0)) else parts_lines moment it answer) (sym is)
+      same ∙ ap (λ (b : Bool). if b then one_lines moment it (words_of (first_line it.form (lines_of answer))) else parts_lines moment it answer) (sym is)
 
-  -- or else those of the first line
-  pub of_first : (length parts == 0) ≡ true → (words : List (List ℕ)) (text : List ℕ) → words ≡ words_of (word_at lines 0) → text ≡ one_lines moment it words
+  -- or else those of the line for the whole
+  pub of_first : (length parts == 0) ≡ true → (words : List (List ℕ)) (text : List ℕ) → words ≡ words_of (first_line it.form lines) → text ≡ one_lines moment it words
       → text ≡ answered_lines moment it answer
   of_first none words text split one =
       let is : (length (parts_lines moment it answer) == 0) ≡ true = ap (λ l. length l == 0) (sym same) ∙ none in
-      one ∙ ap (one_lines moment it) (split ∙ ap (λ l. words_of (word_at l 0)) cut)
-      ∙ ap (λ (b : Bool). if b then one_lines moment it (words_of (word_at (lines_of answer) 0)) else parts_lines moment it answer) (sym is)
+      one ∙ ap (one_lines moment it) (split ∙ ap (λ l. words_of (first_line it.form l)) cut)
+      ∙ ap (λ (b : Bool). if b then one_lines moment it (words_of (first_line it.form (lines_of answer))) else parts_lines moment it answer) (sym is)

@@ -7,7 +7,7 @@ use Rattle.std.specs.Str.{bytes_eq}
 use Rattle.std.specs.String.{string_bytes}
 use Rattle.uu_report.specs.declared.logged.Change.{Change}
 use Rattle.uu_report.specs.declared.logged.Form.{Form}
-use Rattle.uu_report.specs.declared.logged.Form.TheVariants.{One, Load, Settle, Unpack}
+use Rattle.uu_report.specs.declared.logged.Form.TheVariants.{One, Load, Map, Settle, Unpack}
 
 -- ---- lines
 
@@ -38,6 +38,12 @@ words_of line = slice_split (λ byte. byte == 32) line
 -- the word at this place, empty beyond the last
 abbrev pub word_at : List (List ℕ) → ℕ → List ℕ
 word_at words place = unwrap_or (slice_get words place) []
+
+-- The line of an answer that says how the whole change ended. That of `map` begins with the name of a
+-- host, and says nothing of the others.
+abbrev pub first_line : Form → List (List ℕ) → List ℕ
+first_line Map lines = []
+first_line form lines = word_at lines 0
 
 -- ---- changes
 
@@ -77,6 +83,10 @@ module _ (moment : List ℕ) (it : Change) where
   load_lines words =
       if bytes_eq (word_at words 1) (codes "done") then line_about (word_at words 0) none (codes "done") (string_bytes it.words) else []
 
+  -- a line of the answer to `map`: `entry LINE refused WHY`, or `HOST done`, which has no line here
+  abbrev pub map_lines : List (List ℕ) → List ℕ
+  map_lines words = if bytes_eq (word_at words 2) (codes "refused") then job_line (word_at words 3) none else []
+
   -- a line of the answer to `settle`: `SYSTEM refused JOB WHY`, or `SYSTEM JOB ..`
   abbrev pub settle_lines : List (List ℕ) → List ℕ
   settle_lines words =
@@ -96,6 +106,7 @@ module _ (moment : List ℕ) (it : Change) where
   abbrev pub part_lines : Form → List ℕ → List ℕ
   part_lines One line = []
   part_lines Load line = load_lines (words_of line)
+  part_lines Map line = map_lines (words_of line)
   part_lines Settle line = settle_lines (words_of line)
   part_lines Unpack line = unpack_lines (words_of line)
 
@@ -105,4 +116,4 @@ module _ (moment : List ℕ) (it : Change) where
   -- the lines for an answer: those of its parts or, if there are none, those of its first line
   abbrev pub answered_lines : List ℕ → List ℕ
   answered_lines answer =
-      if length (parts_lines answer) == 0 then one_lines (words_of (word_at (lines_of answer) 0)) else parts_lines answer
+      if length (parts_lines answer) == 0 then one_lines (words_of (first_line it.form (lines_of answer))) else parts_lines answer

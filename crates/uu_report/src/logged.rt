@@ -18,6 +18,8 @@ pub enum Form {
     One,
     /// A line for each system that was defined.
     Load,
+    /// A line for each map entry, of which those that were refused are logged.
+    Map,
     /// Lines with the jobs that the system has, and those that it refuses.
     Settle,
     /// A line for each job of a bundle.
@@ -61,7 +63,7 @@ pub fn answered_lines(
     if !parts.as_slice().is_empty() {
         return Ok(parts);
     }
-    let words = words_of(alloc, word_at(&lines, 0))?;
+    let words = words_of(alloc, first_line(change.form, &lines))?;
     one_lines(alloc, moment, change, &words)
 }
 
@@ -111,6 +113,16 @@ fn word_at<'a>(words: &[&'a str], place: usize) -> &'a str
     }
 }
 
+// The line of an answer that says how the whole change ended.
+fn first_line<'a>(form: Form, lines: &[&'a str]) -> &'a str
+    ensures { result.now ≡ spec.first_line form (map (λ line. line.now) lines.now) }
+{
+    match form {
+        Form::Map => "",
+        _ => word_at(lines, 0),
+    }
+}
+
 // The lines for the lines of an answer.
 fn parts_lines(
     alloc: Global,
@@ -141,6 +153,7 @@ fn part_lines(
     match change.form {
         Form::One => Ok(Vec::new(alloc)),
         Form::Load => load_lines(alloc, moment, change, &words),
+        Form::Map => map_lines(alloc, moment, change, &words),
         Form::Settle => settle_lines(alloc, moment, change, &words),
         Form::Unpack => unpack_lines(alloc, moment, change, &words),
     }
@@ -184,6 +197,22 @@ fn load_lines(
             "done",
             change.words.as_str(),
         )
+    } else {
+        Ok(Vec::new(alloc))
+    }
+}
+
+// The lines for a line of the answer to `map`.
+fn map_lines(
+    alloc: Global,
+    moment: &str,
+    change: &Change,
+    words: &[&str],
+) -> Result<Vec<u8>, AllocError>
+    ensures { IfOk result (λ text. text.items ≡ spec.map_lines moment.now change.now (map (λ word. word.now) words.now)) }
+{
+    if word_at(words, 2) == "refused" {
+        job_line(alloc, moment, change, word_at(words, 3), "-")
     } else {
         Ok(Vec::new(alloc))
     }

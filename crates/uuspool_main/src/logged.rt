@@ -34,6 +34,7 @@ pub(crate) fn change_of(
 fn form_of(task: &Task) -> Option<Form> {
     match task {
         Task::Load => Some(Form::Load),
+        Task::Map => Some(Form::Map),
         Task::Settle { .. } => Some(Form::Settle),
         Task::Unpack { .. } => Some(Form::Unpack),
         Task::Drop { .. }
@@ -46,8 +47,7 @@ fn form_of(task: &Task) -> Option<Form> {
         | Task::Rejuvenate { .. }
         | Task::Failed { .. }
         | Task::Done { .. }
-        | Task::Forget { .. }
-        | Task::Map => Some(Form::One),
+        | Task::Forget { .. } => Some(Form::One),
         Task::List { .. }
         | Task::Show { .. }
         | Task::Due { .. }
