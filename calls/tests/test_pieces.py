@@ -366,6 +366,18 @@ class HandedOn(Refused):
             shutil.rmtree(f"{self.folder}/pieces")
 
 
+    def test_mail_that_is_queued_again_is_the_same_file(self) -> None:
+        self.put("etc/forward", "a unc\n")
+        text = b"Subject: x\n\n" + bytes((1 << 20) - 20)
+        self.spool.parcels[1] = parcel(f"1 mysite a!ann B 2026-11-28 10:00:00 {len(text)} exec rmail unc!joe", text)
+        for minute, fails in enumerate(({"exec": SpoolError(3, "uuspool: spool: store")}, {})):
+            self.spool.fails = fails
+            with mock.patch("uuspool_calls.clock.now", return_value=1795867200 + 60 * minute):
+                self.assertEqual(0, self.deliverer.deliver(1))
+        asked = [it for it in self.spool.asked if it[0] == "exec"]
+        self.assertEqual((3, 1), (len(asked), len({it[5] for it in asked})))
+
+
 class Older(Arrivals):
     """Pieces of an older version, which are 1,000,000 bytes long."""
 

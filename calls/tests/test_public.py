@@ -4,6 +4,7 @@ import os
 from uuspool_calls import envelope, forward, public
 from uuspool_calls.errors import Delay, Refusal
 from uuspool_calls.files import memory_file
+from uuspool_calls.jobs import Delivered
 
 from .standins import Folder
 
@@ -186,8 +187,11 @@ class Forwarding(Folder):
 
 class Envelopes(Folder):
     def signed(self, data: bytes, user: str = "duke!ann") -> bytes:
-        with memory_file(data) as content, envelope.signed(content, "duke", user, self.folder) as given:
+        with memory_file(data) as content, envelope.signed(self.mail(content, user), self.folder) as given:
             return os.pread(given, 1000, 0)
+
+    def mail(self, content: int, user: str = "duke!ann") -> Delivered:
+        return Delivered("exec", ("rmail", "joe"), content, "duke", user, "mysite!7!2026-11-08.09:30:00")
 
     def test_the_first_line_says_from_which_neighbour(self) -> None:
         honest = b"From ann Sat Nov 28 12:00:00 2026 remote from duke\n>From joe x remote from unc\n\nhello"
@@ -200,9 +204,9 @@ class Envelopes(Folder):
             first, _, after = self.signed(text).partition(b"\n")
             self.assertRegex(first, rb"^From ann [A-Z][a-z]{2} [A-Z][a-z]{2} [ \d]\d \d\d:\d\d:\d\d \d{4} remote from duke$")
             self.assertEqual(rest, after)
-        self.assertTrue(self.signed(b"", "duke!a!b").startswith(b"From a!b "))
+        self.assertEqual(b"From a!b Sun Nov  8 09:30:00 2026 remote from duke\n", self.signed(b"", "duke!a!b"))
 
     def test_large_mail_has_no_name(self) -> None:
-        with memory_file(bytes(1_048_577)) as content, envelope.signed(content, "duke", "duke!ann", self.folder) as given:
+        with memory_file(bytes(1_048_577)) as content, envelope.signed(self.mail(content), self.folder) as given:
             self.assertEqual([], os.listdir(self.folder))
             self.assertEqual(1_048_577, len(os.read(given, 2_000_000).partition(b"\n")[2]))

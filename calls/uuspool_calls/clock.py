@@ -23,8 +23,9 @@ def shown(zone: str, seconds: int) -> str:
 
 def seconds(zone: str, moment: str) -> int:
     """When a clock of this zone shows a date and time of day. (An hour that it shows twice is one of the two.)"""
+    year, month, day, hour, minute, second = map(int, moment.replace("-", " ").replace(":", " ").split())
     with _in_zone(zone):
-        return int(time.mktime(time.strptime(moment, "%Y-%m-%d %H:%M:%S")))
+        return int(time.mktime((year, month, day, hour, minute, second, 0, 0, -1)))
 
 
 @contextlib.contextmanager

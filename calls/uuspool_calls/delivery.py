@@ -178,7 +178,7 @@ def _piece(job: Delivered) -> Piece:
 def _given(job: Delivered, folder: str) -> Iterator[int]:
     """The open file that a command gets: the job's bytes, and before mail of a neighbour its envelope."""
     if job.sender and job.words[0] == _MAIL:
-        with envelope.signed(job.content, job.sender, job.user, folder) as content:
+        with envelope.signed(job, folder) as content:
             yield content
     else:
         yield job.content

@@ -7,23 +7,24 @@ from collections.abc import Iterator
 
 from . import clock, files
 from .bundle import MOST_OF_A_JOB
+from .jobs import Delivered
 
 _MOST_OF_A_LINE = 1 << 16  # bytes
 
 
 @contextlib.contextmanager
-def signed(content: int, neighbour: str, user: str, folder: str) -> Iterator[int]:
-    """The open file of mail from a neighbour's user with such a first line, or the file itself if it has it. Mail that is
-    larger than a job is on the disk of a folder, and has no name there."""
-    first, end, _ = os.pread(content, _MOST_OF_A_LINE, 0).partition(b"\n")
-    if end and _is_signed(first, neighbour):
-        yield content
+def signed(job: Delivered, folder: str) -> Iterator[int]:
+    """The open file of mail from a neighbour's user with such a first line, or the file itself if it has it. It is the same
+    if the mail is delivered again. Mail that is larger than a job is on the disk of a folder, and has no name there."""
+    first, end, _ = os.pread(job.content, _MOST_OF_A_LINE, 0).partition(b"\n")
+    if end and _is_signed(first, job.sender):
+        yield job.content
         return
     sign = b">" if first.startswith(b"From ") else b""
-    is_large = os.fstat(content).st_size > MOST_OF_A_JOB
+    is_large = os.fstat(job.content).st_size > MOST_OF_A_JOB
     with files.nameless_file(folder) if is_large else files.memory_file(b"") as whole:
-        files.write_all(whole, _line(neighbour, user) + sign)
-        files.copy_all(content, whole)
+        files.write_all(whole, _line(job) + sign)
+        files.copy_all(job.content, whole)
         os.lseek(whole, 0, os.SEEK_SET)
         yield whole
 
@@ -34,7 +35,7 @@ def _is_signed(first: bytes, neighbour: str) -> bool:
     return is_one and first.startswith(b"From ") and first.endswith(f" remote from {neighbour}".encode())
 
 
-def _line(neighbour: str, user: str) -> bytes:
-    name = user.removeprefix(f"{neighbour}!") or "uucp"
-    date = time.strftime("%a %b %e %H:%M:%S %Y", time.gmtime(clock.now()))
-    return f"From {name} {date} remote from {neighbour}\n".encode(errors="surrogateescape")
+def _line(job: Delivered) -> bytes:
+    name = job.user.removeprefix(f"{job.sender}!") or "uucp"
+    date = time.strftime("%a %b %e %H:%M:%S %Y", time.gmtime(clock.seconds("UTC0", job.moment)))
+    return f"From {name} {date} remote from {job.sender}\n".encode(errors="surrogateescape")

@@ -100,6 +100,11 @@ class Delivered(NamedTuple):
         """What is to be done."""
         return " ".join((self.kind, *self.words))
 
+    @property
+    def moment(self) -> str:
+        """When it came, as the site's clock shows that."""
+        return self.name.rpartition("!")[2].replace(".", " ")
+
     def environment(self) -> dict[str, str]:
         """By which a command may know the job."""
         return {"UUSPOOL_JOB": self.name, "UUSPOOL_SENDER": self.sender, "UUSPOOL_USER": self.user}
