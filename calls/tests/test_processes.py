@@ -32,13 +32,17 @@ class Programs(Folder):
         self.assertEqual(127, Processes().run(Program(["true"], "/nowhere", dict(os.environ))).status)
 
     def test_what_a_program_has(self) -> None:
-        """Signals as the system gives them, and no file but its streams. (A shell lets what it runs beside itself ignore QUIT.)"""
-        self.addCleanup(signal.signal, signal.SIGQUIT, signal.signal(signal.SIGQUIT, signal.SIG_DFL))
+        """Signals as the system gives them, and no file but its streams. What was ignored before stays so, as by nohup."""
+        for number in signal.SIGHUP, signal.SIGINT, signal.SIGQUIT:
+            self.addCleanup(signal.signal, number, signal.signal(number, signal.SIG_DFL))
         with open("/dev/null", "rb") as file:
             os.set_inheritable(file.fileno(), True)
             self.assertEqual(b"0\n1\n2\n", self.sh("ls /proc/$$/fd").output)
         ignored = self.run_words("grep", "-E", "SigIgn|SigBlk", "/proc/self/status").output.split()[1::2]
         self.assertEqual([b"0" * 16] * 2, ignored)
+        signal.signal(signal.SIGHUP, signal.SIG_IGN)
+        ignored = self.run_words("grep", "SigIgn", "/proc/self/status").output.split()[1:]
+        self.assertEqual([b"%016x" % (1 << signal.SIGHUP - 1)], ignored)
 
     def test_outputs(self) -> None:
         ended = self.sh("echo out; echo err >&2")
@@ -123,6 +127,17 @@ class Stops(Folder):
         self.assertEqual(75, self.in_child(lambda processes: processes.run(self.sleeper()), "pid"))
         number = int(self.bytes_of("pid"))
         self.assertFalse(os.path.exists(f"/proc/{number}/exe"))
+
+    def test_a_signal_that_is_ignored_ends_nothing(self) -> None:
+        def work(processes: Processes) -> None:
+            os.kill(os.getpid(), signal.SIGHUP)
+            processes.pause(0.1)
+            self.put("went on")
+            processes.pause(100)
+
+        self.addCleanup(signal.signal, signal.SIGHUP, signal.signal(signal.SIGHUP, signal.SIG_IGN))
+        self.assertEqual(75, self.in_child(work, "went on"))
+        self.assertTrue(os.path.exists(f"{self.folder}/went on"))
 
     def test_what_is_short_ends_by_itself(self) -> None:
         program = Program(["sh", "-c", "touch begun; sleep 1; echo done >done"], self.folder, dict(os.environ))

@@ -67,14 +67,20 @@ def _end_with(work: Callable[[], int], mask: Iterable[int]) -> None:
     status = 1
     try:
         signal.set_wakeup_fd(-1)
-        for number in _STOPS:
-            signal.signal(number, signal.SIG_DFL)
+        _handle(signal.SIG_DFL)
         signal.pthread_sigmask(signal.SIG_SETMASK, mask)
         status = work()
     except BaseException:
         sys.excepthook(*sys.exc_info())
     finally:
         os._exit(status)
+
+
+def _handle(handler: "Callable[[int, object], None] | signal.Handlers") -> None:
+    """What HUP, INT and TERM do from now on. One that was ignored when this began, as by nohup, stays so."""
+    for number in _STOPS:
+        if signal.getsignal(number) != signal.SIG_IGN:
+            signal.signal(number, handler)
 
 
 def named(name: str) -> None:
@@ -180,8 +186,7 @@ class Processes:
 
     def catch_stops(self) -> None:
         """From now on HUP, INT and TERM end what runs, and then raise Stopped."""
-        for number in _STOPS:
-            signal.signal(number, self._stop)
+        _handle(self._stop)
         signal.set_wakeup_fd(self._waker, warn_on_full_buffer=False)
 
     def begin_as_child(self) -> None:
