@@ -4,7 +4,7 @@ import pwd
 from unittest import mock
 from unittest.mock import patch
 
-from uuspool_calls import call, carriers, check, expire, files, hold, move, night, setup, sysfile, taylor
+from uuspool_calls import call, carriers, check, cli, expire, files, hold, move, night, setup, sysfile, taylor
 from uuspool_calls.carriers import folder, ssh, uucico
 from uuspool_calls.errors import Failure, Stopped
 from uuspool_calls.jobs import Job
@@ -383,6 +383,16 @@ class Small(Folder):
                 session = Quiet(self.folder)
                 check.Check(session)._check_cleaner(f"{self.folder}/public")
                 self.assertEqual(found, len(session.printed), (mode, days))
+
+
+class Ends(Folder):
+    def test_statuses(self) -> None:
+        for error, status, said in (
+            (Failure(78, "no site"), 78, ["no site"]), (Failure(75, ""), 75, []), (Stopped(), 75, []), (KeyboardInterrupt(), 75, []),
+            (FileNotFoundError(2, "No such file or directory", "/x"), 75, ["/x: No such file or directory"]), (BrokenPipeError(), 75, []),
+        ):  # fmt: skip
+            session = Quiet(self.folder)
+            self.assertEqual((status, said), (cli.run(session, mock.Mock(side_effect=error), []), session.said))
 
 
 class Rounds(Folder):

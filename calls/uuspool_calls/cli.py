@@ -32,7 +32,7 @@ def run(session: Session, command: Command, words: Sequence[str]) -> int:
         if str(failure):
             session.say(str(failure))
         return failure.status
-    except (Stopped, BrokenPipeError):
+    except (Stopped, BrokenPipeError, KeyboardInterrupt):
         return LATER
     except OSError as error:
         session.say(f"{error.filename or 'the system'}: {error.strerror}")
