@@ -67,6 +67,7 @@ class Programs(Folder):
     def test_what_writes_too_much(self) -> None:
         ended = self.sh("head -c 3000000 /dev/zero; exit 3", most=1000)
         self.assertEqual((3, 1001, True), (ended.status, len(ended.output), ended.wrote_too_much))
+        self.assertEqual([True] * 10, [self.sh("echo 1234", most=3).wrote_too_much for _ in range(10)])  # (at its end)
         ended = self.run_words("cat", "/dev/zero", most=1000, ends_beyond=True, limit=60)
         self.assertEqual((1001, True), (len(ended.output), ended.wrote_too_much))
 

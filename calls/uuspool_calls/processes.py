@@ -266,7 +266,7 @@ class Processes:
                     child.terminate()
         for pipe in waiting.values():
             pipe.drain()
-        return too_much
+        return too_much or any(pipe.is_full() for pipe in pipes)
 
     def read_input(self, handle: int, most: int, seconds: float, idle: float = float("inf")) -> bytes | None:
         """Reads an input to its end, or one byte more than `most`. None if that takes too long, or nothing comes
