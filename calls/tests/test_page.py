@@ -1,6 +1,8 @@
 """What the page makes of the program's answers, and of what is beside the spool."""
 import re
 
+from uuspool_calls import page
+from uuspool_calls.errors import Failure
 from uuspool_calls.jobs import Job
 from uuspool_calls.page.answers import Answers
 from uuspool_calls.page.beside import Beside, refused_in
@@ -9,7 +11,7 @@ from uuspool_calls.page.whole import Page
 from uuspool_calls.pieces import About, Piece
 from uuspool_calls.wholes import Listed
 
-from .standins import Folder
+from .standins import Folder, Quiet
 
 SUM = "0" * 64
 NOON = 1795867200  # 2026-11-28 12:00:00 UTC
@@ -44,6 +46,13 @@ class Lists(Folder):
 
 
 class Pages(Folder):
+    def test_a_site_that_cannot_be_found(self) -> None:
+        for ended, status in (2, 2), (5, 5), (127, 5):
+            self.put("bin/uuspool", f"#!/bin/sh\necho 'uuspool: settings: not toml' >&2\nexit {ended}\n", 0o755)
+            with self.assertRaisesRegex(Failure, "^settings: not toml$") as raised:
+                page._page(Quiet(self.folder), page._options([]))
+            self.assertEqual(status, raised.exception.status)
+
     def test_what_waits(self) -> None:
         jobs = "\n".join([line_of(3, 0, 7000), line_of(4, 1000, 7000), line_of(5, 6000, 7000), "6 unc joe A 2026-11-28 11:00:00 5 send a ~/a"])
         queues = "duke 3 3000 N 2026-11-28 10:00:00\nunc 1 5 A 2026-11-28 11:00:00\n"

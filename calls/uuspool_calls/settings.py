@@ -12,10 +12,11 @@ _KNOWN = {"spool", "zone", "offset", "name", "admins", "seals"}
 
 
 class NoSite(Failure):
-    """There is no site, or its settings are wrong, as the program says."""
+    """There is no site, or its settings are wrong, as the program says, which ended with a status of its own."""
 
-    def __init__(self, why: str) -> None:
+    def __init__(self, why: str, ended: int = 0) -> None:
         super().__init__(NOT_SET_UP, why)
+        self.ended = ended
 
 
 class Settings(NamedTuple):
@@ -42,7 +43,7 @@ def find(session: Session, options: Sequence[str] = ()) -> Settings:
     """The settings of the site on which this run works, or of one that options of the program name."""
     ended = session.processes.run(Program([session.program, *options, "site"], "", session.environment))
     if ended.status:
-        raise NoSite(one_line(ended.errors) or f"{session.program} ended with status {ended.status}")
+        raise NoSite(one_line(ended.errors) or f"{session.program} ended with status {ended.status}", ended.status)
     return read(ended.output.decode(errors="surrogateescape"))
 
 

@@ -23,7 +23,7 @@ from .beside import Beside
 from .times import Clock, moment, stamp
 from .whole import Page
 
-_SPOOL, _STREAMS = 3, 5  # statuses, as the program has them
+_WRONG, _SPOOL, _STREAMS = 2, 3, 5  # statuses, as the program has them
 _LAST = 4_102_444_800  # the last second that --at takes
 _LIMIT = 300  # seconds for all questions
 
@@ -88,7 +88,7 @@ def _page(session: Session, given: argparse.Namespace) -> str:
     try:
         site = settings.find(session, options)
     except settings.NoSite as why:
-        raise Failure(_STREAMS, str(why).removeprefix("uuspool: ")) from None
+        raise Failure(_WRONG if why.ended == _WRONG else _STREAMS, str(why).removeprefix("uuspool: ")) from None
     if os.geteuid() == 0:
         owner_of(site)  # (which fails if somebody else's settings lead root to a site of root's)
     ask = _Batch(session, options).ask
