@@ -1,10 +1,10 @@
 """uuspool-deliver: delivers the jobs that wait for this site itself, each on its own, or tries those with
 these numbers now.
 
-One round goes on at a time, for at most some minutes, and the senders take turns in it, so who sends many jobs
-delays no other. The next one waits for no command whose line gives it minutes, and then has fewer places. A job that fails is tried again after 10 minutes, then after twice as long, at most 4 hours. After
-5 days, or if it never can be delivered, it is refused. The status is 75 if a job can't be
-refused now.
+One round goes on at a time, and begins nothing more after some minutes. The senders take turns in it, so who sends
+many jobs delays no other. The next round waits for no command that takes longer than usual, and has fewer places
+meanwhile. A job that fails is tried again after 10 minutes, then after twice as long, at most 4 hours. After 5 days,
+or if it never can be delivered, it is refused. The status is 75 if a job can't be refused now.
 
 A command is run once, unless this is stopped between its end and the spool's note of it. Then it runs again,
 with the same $UUSPOOL_JOB, by which it may know the job."""
