@@ -1,9 +1,9 @@
 """Calls of neighbours, and deliveries of jobs, at a site of uuspool.
 
 A command is a function `run(session, words)` of a module here; `cli` runs it. A `Session` is one run
-of a command, and a `Site` is the site that it entered. The spool is asked by `Spool` alone, and every
-program runs by `Processes`, which ends it if the command is stopped. No module keeps a state of its
-own, and no shell reads any word.
+of a command, and a `Site` is the site that it entered. `Spool` asks its spool. Carriers, the page, and what root runs as
+the spool's user begin lines of the program themselves. Every program runs by `Processes`, which ends it if the command
+is stopped and it has a limit. No module keeps a state of its own, and no shell reads any word.
 
 From below, each importing only what stands before it (`calls/tests/test_layers.py` checks that):
 
