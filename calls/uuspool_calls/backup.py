@@ -209,9 +209,12 @@ class Backup:
         self.faults += copier.left_out
 
     def _check(self, folder: str) -> None:
-        """Has the program read each row of the copy. A wrong one is in the spool, too, and no reason to have no copy."""
+        """Has the program read each row of the copy. A wrong one is in the spool, too, and no reason to have no copy. (The
+        spool's user may have named the file so that TOML would read another path in it.)"""
+        import json  # (takes long to load)
+
         name = os.path.basename(self._settings.spool)
-        files.replace(f"{folder}/{_CHECK}", f'name = "{self._settings.name}"\nspool = "{name}"\n'.encode())
+        files.replace(f"{folder}/{_CHECK}", f"name = {json.dumps(self._settings.name)}\nspool = {json.dumps(name, ensure_ascii=False)}\n".encode())
         environment = {key: value for key, value in self._session.environment.items() if key != "UUSPOOL_DIR"}
         ended = self._session.processes.run(Program([self._session.program, "-c", _CHECK, "status"], folder, environment), joined=True)
         for made in _CHECK, f"{name}-lock", f"{name}-reserve", "log":
