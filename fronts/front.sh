@@ -106,7 +106,12 @@ act_as_owner() {
     expect_one_owner
     ! [ -O "$folder" ] || return 0
     [ "$settings" = /etc/uuspool/uuspool.toml ] || export UUSPOOL_DIR="${settings%/*}"
-    spool="setsid -w runuser -u $(stat -L -c %U -- "$folder") -- env -C / $bin/uuspool"
+    spool="env $(hidden) setsid -w runuser -u $(stat -L -c %U -- "$folder") -- env -C / $bin/uuspool"
+}
+
+# Options of `env` by which the owner gets nothing else of root's environment, which may have passwords.
+hidden() {
+    env | sed -n 's/^\([A-Za-z_][A-Za-z0-9_]*\)=.*/\1/p' | grep -vxE 'PATH|HOME|TERM|LANG|TZ|TMPDIR|(LC|UUSPOOL|UUCICO)_.*' | sed 's/^/-u /'
 }
 
 # Settings that a user may write lead root to no site of somebody else.

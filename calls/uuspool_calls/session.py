@@ -8,6 +8,8 @@ from .errors import USAGE, Failure
 from .processes import Ended, Processes, Program
 from .texts import is_number
 
+_PASSED = frozenset("PATH HOME TERM LANG TZ TMPDIR".split())
+_PASSED_HEADS = ("LC_", "UUSPOOL_", "UUCICO_")
 _LIBRARY = os.path.dirname(os.path.dirname(os.path.realpath(__file__)))
 
 
@@ -67,9 +69,14 @@ class Session:
     def run_as(self, owner: str, words: Sequence[str], given: bytes | int = b"", joined: bool = False) -> Ended:
         """Runs a program as this user, in the present folder. The terminal of root, who may run this, isn't its
         own, because whatever else this user runs could type there."""
+        environment = self.environment
         if owner != user_name(os.geteuid()):
-            words = ["setsid", "-w", "runuser", "-u", owner, "--", *words]
-        return self.processes.run(Program(words, "", self.environment), given, joined=joined)
+            words, environment = ["setsid", "-w", "runuser", "-u", owner, "--", *words], self.passed()
+        return self.processes.run(Program(words, "", environment), given, joined=joined)
+
+    def passed(self) -> dict[str, str]:
+        """What another user gets of root's environment, which may have passwords."""
+        return {name: value for name, value in self.environment.items() if name in _PASSED or name.startswith(_PASSED_HEADS)}
 
     def may(self, owner: str, path: str, mode: int) -> bool:
         """Whether this user may use a file: os.R_OK, os.W_OK or os.X_OK."""

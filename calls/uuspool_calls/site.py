@@ -120,7 +120,7 @@ def _expect_owner(session: Session, found: settings.Settings, words: Sequence[st
     program = os.path.realpath(sys.argv[0])
     os.chdir("/")
     # (In a session of its own what runs as this user can't type at root's terminal.)
-    os.execvpe("setsid", ["setsid", "-w", "runuser", "-u", name, "--", program, *words], session.environment)
+    os.execvpe("setsid", ["setsid", "-w", "runuser", "-u", name, "--", program, *words], session.passed())
 
 
 def has_bytes(path: str) -> bool:
