@@ -111,7 +111,10 @@ act_as_owner() {
 
 # Options of `env` by which the owner gets nothing else of root's environment, which may have passwords.
 hidden() {
-    env | sed -n 's/^\([A-Za-z_][A-Za-z0-9_]*\)=.*/\1/p' | grep -vxE 'PATH|HOME|TERM|LANG|TZ|TMPDIR|(LC|UUSPOOL|UUCICO)_.*' | sed 's/^/-u /'
+    awk 'BEGIN {
+        for (name in ENVIRON)
+            if (name ~ /^[A-Za-z_][A-Za-z0-9_]*$/ && name !~ /^(PATH|HOME|TERM|LANG|TZ|TMPDIR|(LC|UUSPOOL|UUCICO)_.*)$/) print "-u", name
+    }'
 }
 
 # Settings that a user may write lead root to no site of somebody else.
