@@ -31,3 +31,4 @@ class Settings(Folder):
     def test_unknown_keys_have_their_lines(self) -> None:
         path = self.put("uuspool.toml", 'name = "a"\n"timezone" = "UTC"\nspool = "spool.db"\n[more]\nx = 1\n')
         self.assertEqual([(2, "timezone"), (4, "more")], settings.unknown_keys(path))
+        self.assertEqual([[]] * 2, [settings.unknown_keys(it) for it in (self.put("other", "["), f"{self.folder}/nothing")])

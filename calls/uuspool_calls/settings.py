@@ -1,7 +1,9 @@
 """The site, as the program finds it: where its settings, its spool and its log are, and what its clock shows."""
+import contextlib
 import os
 from collections.abc import Sequence
 
+from . import files
 from .errors import NOT_SET_UP, Failure
 from .processes import Program
 from .session import Session
@@ -64,12 +66,14 @@ def _zone_of(minutes: int) -> str:
 
 
 def unknown_keys(path: str) -> list[tuple[int, str]]:
-    """The lines of a settings file that mean nothing, and their keys."""
+    """The lines of a settings file that mean nothing, and their keys. (The program has read it, and its owner may have
+    put something else there since.)"""
     import tomllib  # (takes long to load, and no mailer waits for this)
 
-    with open(path, encoding="utf-8") as file:
-        text = file.read()
-    return sorted((_line_of(key, text), key) for key in tomllib.loads(text) if key not in _KNOWN)
+    text = (files.read_bytes(path) or b"").decode(errors="replace")
+    with contextlib.suppress(ValueError):
+        return sorted((_line_of(key, text), key) for key in tomllib.loads(text) if key not in _KNOWN)
+    return []
 
 
 def _line_of(key: str, text: str) -> int:
