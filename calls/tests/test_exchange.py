@@ -1,6 +1,7 @@
 """What becomes of a bundle, of refused jobs and of moves, with a spool of tables."""
 import json
 import os
+import signal
 
 from uuspool_calls import moves
 from uuspool_calls.errors import Failure, SpoolError
@@ -8,7 +9,7 @@ from uuspool_calls.exchange import Neighbour, NotTaken, expect_size
 from uuspool_calls.jobs import Job
 from uuspool_calls.letters import Letter, Mailroom, NotSent, at_home
 from uuspool_calls.processes import Ended
-from uuspool_calls.refusals import Refuser, forget_old, forget_warnings, has_untold, tell, warn
+from uuspool_calls.refusals import Kept, Refuser, forget_old, forget_warnings, has_untold, tell, warn
 from uuspool_calls.spool import Refused, Settled, Unpacked
 
 from .standins import LINE, Folder, Mailer, StandIn, parcel, site
@@ -170,6 +171,14 @@ class Refusing(Folder):
         self.assertEqual(2, len(self.mailer.ran))
         self.assertIn(b"eve", self.bytes_of("refused/7.2"))
         self.assertIn(b"joe", self.bytes_of("refused/7"))
+
+    def test_a_pipe_in_the_place_of_what_is_refused_is_not_waited_for(self) -> None:
+        """(root may read there, by uuspool-page.)"""
+        os.mkfifo(f"{self.folder}/refused/7")
+        self.addCleanup(signal.signal, signal.SIGALRM, signal.signal(signal.SIGALRM, signal.default_int_handler))
+        signal.alarm(20)
+        self.addCleanup(signal.alarm, 0)
+        self.assertIsNone(Kept.read(f"{self.folder}/refused/7"))
 
     def test_no_letter_about_a_letter(self) -> None:
         self.assertTrue(self.refuse(ann="a!MAILER-DAEMON"))

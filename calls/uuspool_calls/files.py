@@ -81,14 +81,15 @@ def _opened_anew(path: str) -> int:
     return os.open(path, flags | os.O_EXCL, 0o600)
 
 
-def _open_at_once(path: str, flags: int) -> int:
+def open_at_once(path: str, flags: int) -> int:
+    """An `opener` that waits for no pipe."""
     return os.open(path, flags | os.O_NONBLOCK | os.O_NOCTTY)
 
 
 def read_bytes(path: str) -> bytes | None:
     """What a file has, or None if it can't be read, or isn't a file: root reads in folders of the spool's user, where
     a pipe would be waited for, and a device may have no end."""
-    with contextlib.suppress(OSError), open(path, "rb", opener=_open_at_once) as file:
+    with contextlib.suppress(OSError), open(path, "rb", opener=open_at_once) as file:
         if stat.S_ISREG(os.fstat(file.fileno()).st_mode):
             return file.read()
     return None

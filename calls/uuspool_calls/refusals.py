@@ -112,7 +112,7 @@ class Kept(NamedTuple):
         """What a file or a folder has, if it is kept there."""
         if os.path.isdir(path):
             return _kept_file(path)
-        with contextlib.suppress(OSError, ValueError), open(path, "rb") as file:
+        with contextlib.suppress(OSError, ValueError), open(path, "rb", opener=files.open_at_once) as file:
             reason, line = (file.readline(_MOST_OF_A_LINE).decode(errors="replace").removesuffix("\n") for _ in range(2))
             job = Job.read(line)
             is_piece = pieces.Piece.of(job) is not None
