@@ -84,8 +84,7 @@ module _ (name : Text) (rows : List Row) (meant : Result Task LineFault) where
   sound_task (inr (inr (inr (inr (inr (inr (inr (inr (inr (inr (inr (inr (inr (inr (inr (inr (inr (inr (inr (inr (inr (inr (inr (inr (inl (n_is, (t, i, e))))))))))))))))))))))))))) = subst Sound (sym e) (by_then (site_of t) (λ v0. Ok (task.Neighbours v0)) (λ v0 e0. tt))
   sound_task (inr (inr (inr (inr (inr (inr (inr (inr (inr (inr (inr (inr (inr (inr (inr (inr (inr (inr (inr (inr (inr (inr (inr (inr (inr (inl ((n_is, e)))))))))))))))))))))))))))) = subst Sound (sym e) tt
   sound_task (inr (inr (inr (inr (inr (inr (inr (inr (inr (inr (inr (inr (inr (inr (inr (inr (inr (inr (inr (inr (inr (inr (inr (inr (inr (inr (inl ((n_is, (t, i, e)))))))))))))))))))))))))))))) = subst Sound (sym e) (by_then (site_of t) (λ v0. Ok (task.Routes (Some v0) (has_flag (codes "cost") rows))) (λ v0 e0. tt))
-  sound_task (inr (inr (inr (inr (inr (inr (inr (inr (inr (inr (inr (inr (inr (inr (inr (inr (inr (inr (inr (inr (inr (inr (inr (inr (inr (inr (inr (inl (n_is, e))))))))))))))))))))))))))))) = subst Sound (sym e) tt
-  sound_task (inr (inr (inr (inr (inr (inr (inr (inr (inr (inr (inr (inr (inr (inr (inr (inr (inr (inr (inr (inr (inr (inr (inr (inr (inr (inr (inr (inr (n_is, e))))))))))))))))))))))))))))) = subst Sound (sym e) tt
+  sound_task (inr (inr (inr (inr (inr (inr (inr (inr (inr (inr (inr (inr (inr (inr (inr (inr (inr (inr (inr (inr (inr (inr (inr (inr (inr (inr (inr (n_is, e)))))))))))))))))))))))))))) = subst Sound (sym e) tt
 
 entered_sound : (entered : Option (Text × List Row)) (meant : Result Task LineFault) → MeansEntered entered meant → Sound meant
 entered_sound None meant none = absurd none
