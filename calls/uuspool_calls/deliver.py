@@ -34,6 +34,7 @@ _MARGIN = 15  # seconds until a command that is ended has ended
 _ROUND = 300  # seconds after which a round begins no more deliveries
 _MOST_FETCHED = 64  # MiB that wait for a neighbour, above which it fetches nothing more
 _MOST_JOBS = 5000  # that wait for it
+_PATIENCE = 5  # seconds for another file that it fetches
 
 
 def run(session: Session, words: Sequence[str]) -> int:
@@ -218,7 +219,10 @@ class Deliverer:
         """A file that the sender asked for goes back as a job of who asked, or in pieces."""
         if not job.sender or len(words) < 2:
             raise Refusal(f"a request for {self._own} itself, or without two names, asks for nothing")
-        with self._delivery.public_of(job.sender).opened(words[0]) as content:
+        with self._delivery.public_of(job.sender).opened(words[0]) as content, self._site.lock(f"deliver/{job.sender}.fetches{_LOCK}") as lock:
+            # (Otherwise many find the same room.)
+            if not lock.wait(_PATIENCE, self._site.session.processes.pause):
+                raise Delay(f"another file is being queued for {job.sender}, so it gets {words[0]} later")
             self._expect_room(job.sender, words[0], os.fstat(content).st_size)
             self._queue(job.sender, job._replace(kind="send", words=tuple(words), content=content), "request")
 
