@@ -328,6 +328,7 @@ class Small(Folder):
         for path in f"{self.folder}/pipe", self.folder, "/dev/zero", f"{self.folder}/nothing":
             self.assertIsNone(files.read_bytes(path))
         self.assertEqual(b"x", files.read_bytes(self.put("x", "x")))
+        self.assertEqual(b"xy", files.read_bytes(self.put("x", "xyz"), 2))
         for text in "[" * 200_000, "[]", "{", '{"a": ' * 200_000:
             self.assertEqual({}, files.read_record(self.put("x", text)))
 

@@ -180,7 +180,7 @@ class Backup:
 
     def _expect_no_journal(self) -> None:
         journal = f"{self._settings.spool}-journal"
-        if (files.read_bytes(journal) or b"\0")[:1] != b"\0":
+        if (files.read_bytes(journal, 1) or b"\0") != b"\0":
             raise Failure(LATER, f"{journal} was left by sqlite3: open the spool once with sqlite3")
 
     def _put(self, path: str, target: Target, name: str) -> None:

@@ -6,6 +6,7 @@ from . import clock, files
 from .contacts import Contacts
 from .errors import LATER, Failure
 from .processes import Ended
+from .session import acting_as
 from .settings import Settings
 from .site import ROUND
 from .texts import one_line
@@ -43,9 +44,14 @@ class Figures(NamedTuple):
     round: int = 0  # when uuspool-night made its last round
 
 
-def gather(found: Settings, ask: _Ask) -> Figures:
-    """The figures of a site."""
+def gather(found: Settings, ask: _Ask, owner: str = "") -> Figures:
+    """The figures of a site. For root its owner looks at the files, who may have put links there: others read the figures."""
     status, queues = _lines(ask, "status"), _lines(ask, "queues")
+    with acting_as(owner):
+        return _figures(found, status, queues)
+
+
+def _figures(found: Settings, status: list[list[str]], queues: list[list[str]]) -> Figures:
     contacts = Contacts(found.folder)
     neighbours = {words[0]: _called(words, found.zone, contacts) for words in status}
     for name, jobs, size, _, *moment in queues:

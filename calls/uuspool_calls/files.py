@@ -8,6 +8,9 @@ from collections.abc import Callable, Iterator, Mapping
 
 from .values import Any, Self
 
+_MOST_OF_A_RECORD = 1 << 26  # bytes
+
+
 @contextlib.contextmanager
 def closing(handle: int) -> Iterator[int]:
     """An open file, which is closed then."""
@@ -86,18 +89,19 @@ def open_at_once(path: str, flags: int) -> int:
     return os.open(path, flags | os.O_NONBLOCK | os.O_NOCTTY)
 
 
-def read_bytes(path: str) -> bytes | None:
-    """What a file has, or None if it can't be read, or isn't a file: root reads in folders of the spool's user, where
-    a pipe would be waited for, and a device may have no end."""
+def read_bytes(path: str, most: int = -1) -> bytes | None:
+    """What a file has, or so many bytes of it, or None if it can't be read, or isn't a file: root reads in folders of the
+    spool's user, where a pipe would be waited for, a device may have no end, and a file with holes is as large as anybody
+    likes."""
     with contextlib.suppress(OSError), open(path, "rb", opener=open_at_once) as file:
         if stat.S_ISREG(os.fstat(file.fileno()).st_mode):
-            return file.read()
+            return file.read(most)
     return None
 
 
 def read_record(path: str) -> dict[str, Any]:
     """What a file of JSON has; nothing if it isn't there, or isn't such a file."""
-    if not (text := read_bytes(path)):
+    if not (text := read_bytes(path, _MOST_OF_A_RECORD)):
         return {}
     import json  # (takes long to load)
 

@@ -12,6 +12,7 @@ from .session import Session, acting_as, numbers_of, user_name
 
 _KEY = re.compile("[0-9a-fA-F]{64}")
 _UNSEALED = "unsealed"
+_MOST_OF_KEYS = 1 << 16  # bytes
 _PRIVATE = 0o077
 
 
@@ -37,7 +38,7 @@ class KeyFiles:
     def _read(self, neighbour: str) -> bytes | None:
         """What the file of a neighbour has, as its owner may read it, who may have put a link there."""
         with acting_as(self._owner):
-            return files.read_bytes(self.path(neighbour))
+            return files.read_bytes(self.path(neighbour), _MOST_OF_KEYS)
 
     def add(self, neighbour: str, key: str) -> bool:
         """Adds a key. Whether it is the first, with which bundles are sealed."""

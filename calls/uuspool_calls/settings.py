@@ -11,6 +11,7 @@ from .texts import one_line
 from .values import NamedTuple
 
 _KNOWN = {"spool", "zone", "offset", "name", "admins", "seals"}
+_MOST = 1 << 20  # bytes that are looked at
 
 
 class NoSite(Failure):
@@ -70,8 +71,8 @@ def unknown_keys(path: str) -> list[tuple[int, str]]:
     put something else there since.)"""
     import tomllib  # (takes long to load, and no mailer waits for this)
 
-    text = (files.read_bytes(path) or b"").decode(errors="replace")
-    with contextlib.suppress(ValueError):
+    text = (files.read_bytes(path, _MOST) or b"").decode(errors="replace")
+    with contextlib.suppress(ValueError, RecursionError):
         return sorted((_line_of(key, text), key) for key in tomllib.loads(text) if key not in _KNOWN)
     return []
 

@@ -12,6 +12,7 @@ from . import files
 from .errors import LATER, Failure
 from .session import acting_as
 
+_MOST_DIGITS = 20  # of a process
 _FIRST_PAUSE, _LONGEST_PAUSE = 0.001, 0.05  # seconds
 _OPEN = os.O_RDWR | os.O_NOFOLLOW | os.O_NOCTTY | os.O_CLOEXEC
 _LOCK = struct.pack("hhqqi4x", fcntl.F_WRLCK, os.SEEK_SET, 0x40000000, 512, 0)  # the bytes that SQLite locks
@@ -31,7 +32,7 @@ class Turn(files.Lock):
     def wait_for_it(self, pause: Callable[[float], None]) -> None:
         """Waits for the turn."""
         if not self._tries(self.take, pause):
-            holder = (files.read_bytes(self.path) or b"").decode(errors="replace").strip()
+            holder = (files.read_bytes(self.path, _MOST_DIGITS) or b"").decode(errors="replace").strip()
             raise Failure(LATER, f"no turn within {self.seconds} seconds: process {holder or '-'} has {self.path}")
         os.pwrite(self._handle, b"%10d\n" % os.getpid(), 0)
 
