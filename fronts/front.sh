@@ -29,9 +29,12 @@ end() {
 trap end EXIT
 
 fail() {
-    printf '%s: %s\n' "$front" "$2" >&2
+    plainly "$front: $2" >&2
     exit "$1"
 }
+
+# Prints a text. The spool's user may have chosen a part of it, and the terminal of root mustn't obey that.
+plainly() { printf '%s\n' "$1" | tr -c ' -~\t\n' '?'; }
 
 # Calls `option NAME VALUE` of the script for each option of the words: `-g` or `--grade`. $valued has the names
 # with a value. $used is then the number of words that were options.
@@ -80,7 +83,7 @@ ask() {
     2) if $spool name >/dev/null 2>&1; then status=$usage; else status=$later; fi ;;
     *) status=$later ;;
     esac
-    printf '%s\n' "$said" >&2
+    plainly "$said" >&2
     case $member:$said in yes:'sudo: '*) fail "$status" 'members of the group uuspool may do this, from their next login on' ;; esac
     exit "$status"
 }
@@ -88,7 +91,7 @@ ask() {
 # Prints an answer.
 print() {
     ask "$@"
-    [ -z "$said" ] || printf '%s\n' "$said" || fail "$later" 'cannot write'
+    [ -z "$said" ] || plainly "$said" || fail "$later" 'cannot write'
 }
 
 # What `uuspool site` says after a word, for example `folder`. Anybody may ask this, because it opens no spool.
