@@ -131,6 +131,8 @@ class Delivery:
         command = commands.find(path, name, self._own)
         command.expect_allowed(self._own, job.sender, words, path)
         if name == _MAIL:
+            if job.sender and not words:
+                raise Refusal(f"{name} names nobody, and {self._own} takes no recipients from the message")
             self._expect_forwarded(job.sender, words)
         return command
 

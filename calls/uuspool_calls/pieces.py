@@ -289,24 +289,30 @@ class Pieces:
     def held(self, piece: Piece, user: str, job: str) -> Iterator[File]:
         """The file of a piece, which a job of this name brings. No other process has it meanwhile."""
         name = piece.name(user)
+        path = f"{self._folder}/{name}"
         with contextlib.ExitStack() as held:
             try:
                 os.makedirs(self._folder, exist_ok=True)
-                if not self._lock(f"{self._folder}/{name}.lock", held):
+                lock = self._lock(f"{path}.lock", held)
+                if lock is None:
                     raise Delay(f"{piece.place} of {piece.words[-1]} waits for another one below {self._folder}")
                 file = self._found(name, piece, user, job)
             except OSError as error:
                 raise cannot_be_kept(piece, self._folder, error) from None
-            yield file
+            try:
+                yield file
+            finally:
+                if lock.is_current() and not os.path.isdir(path):  # (it is refused, and nothing else would remove the lock soon)
+                    files.remove(lock.path)
 
-    def _lock(self, path: str, held: contextlib.ExitStack) -> bool:
+    def _lock(self, path: str, held: contextlib.ExitStack) -> files.Lock | None:
         """Waits for the lock of a file. Whoever had it may have removed its file."""
         while True:
             lock = held.enter_context(files.Lock(path))
             if not lock.wait(self._patience, self._pause):
-                return False
+                return None
             if lock.is_current():
-                return True
+                return lock
 
     def _found(self, name: str, piece: Piece, user: str, job: str) -> File:
         for path in f"{self._refused}/{name}{FILE}", f"{self._refused}/{name}{FILE}{UNTOLD}":
