@@ -39,6 +39,31 @@ class Copies(Folder):
         seen = os.stat(f"{self.folder}/copy/a")
         self.assertEqual((0o640, 1000), (seen.st_mode & 0o777, int(seen.st_mtime)))
 
+    def test_files_without_folders(self) -> None:
+        self.put("s/a", "a")
+        self.put("s/b/c", "c")
+        target = copies.Target(f"{self.folder}/copy")
+        with copies.Copier() as copier:
+            copier.take_files(f"{self.folder}/s", target)
+            copier.finish()
+        target.close()
+        self.assertEqual((["a"], [f"{self.folder}/s/b: is a folder"]), (os.listdir(f"{self.folder}/copy"), copier.left_out))
+
+    def test_holes_stay_holes(self) -> None:
+        for name, place in ("a", 32 << 20), ("b", 0):
+            with open(self.put(f"s/{name}", "begin"), "r+b") as file:
+                file.truncate(64 << 20)
+                file.seek(place)
+                file.write(b"data")
+        self.copied("s")
+        for name, place, begin in ("a", 32 << 20, b"begin"), ("b", 0, b"datan"):
+            with open(f"{self.folder}/copy/{name}", "rb") as file:
+                self.assertEqual(begin, file.read(5))
+                file.seek(place)
+                self.assertEqual(b"data", file.read(4))
+            seen = os.stat(f"{self.folder}/copy/{name}")
+            self.assertEqual((64 << 20, True), (seen.st_size, seen.st_blocks < 1000))
+
     def test_modes_and_owners(self) -> None:
         self.put("s/b/c", "c")
         os.chmod(f"{self.folder}/s", 0o750)

@@ -196,7 +196,7 @@ class Backup:
         with Copier(owner=self._owner) as copier:
             copier.take_file(os.path.realpath(found.path), target, "settings.toml")
             if found.seals and not os.path.realpath(found.seals).startswith(f"{etc}/"):
-                copier.take(found.seals, target.folder("seals"))
+                copier.take_files(found.seals, target.folder("seals"))
             self._finish(copier)
         with Copier() as copier:
             copier.take(etc, target.folder("etc"))

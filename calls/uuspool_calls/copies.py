@@ -12,6 +12,7 @@ _FOLDER = os.O_RDONLY | os.O_DIRECTORY | os.O_NOFOLLOW | os.O_CLOEXEC
 _NEW = os.O_WRONLY | os.O_CREAT | os.O_EXCL | os.O_NOFOLLOW | os.O_CLOEXEC
 _MODE = 0o777
 _SPARE = 64  # descriptors
+_BLOCK = 1 << 20  # bytes
 
 
 class Target:
@@ -34,7 +35,7 @@ class Target:
         """A new file with the bytes, the mode and the time of an open one, and its owner if this is root."""
         seen = os.fstat(source)
         with files.opened(name, _NEW, folder=self.handle) as handle:
-            files.copy_all(source, handle)
+            _copy(source, handle, seen.st_size)
             _make_like(handle, seen)
             os.utime(handle, ns=(seen.st_atime_ns, seen.st_mtime_ns))
 
@@ -55,6 +56,24 @@ class Target:
         for part in self._parts:
             part.close()
         os.close(self.handle)
+
+
+def _copy(source: int, target: int, size: int) -> None:
+    """Copies a file. Its holes stay holes, because a user may make them larger than root's disk."""
+    place = 0
+    while place < size:
+        try:
+            place = os.lseek(source, place, os.SEEK_DATA)
+        except OSError as error:
+            if error.errno != errno.ENXIO:
+                raise
+            break
+        end = min(size, os.lseek(source, place, os.SEEK_HOLE))
+        os.lseek(target, place, os.SEEK_SET)
+        while place < end and (block := os.pread(source, min(_BLOCK, end - place), place)):
+            files.write_all(target, block)
+            place += len(block)
+    os.ftruncate(target, size)
 
 
 def _make_like(handle: int, seen: os.stat_result) -> None:
@@ -91,23 +110,30 @@ class Copier:
         with contextlib.suppress(FileNotFoundError):
             self._enter(path, None, path, target, wanted)
 
+    def take_files(self, path: str, target: Target) -> None:
+        """Takes what is in a folder, without the folders below it."""
+        with contextlib.suppress(FileNotFoundError):
+            self._enter(path, None, path, target, None)
+
     def take_file(self, path: str, target: Target, name: str) -> None:
         """Takes a file, unless it is missing."""
         with contextlib.suppress(FileNotFoundError):
             self._open(path, None, target, name, path)
 
-    def _take(self, folder: int, path: str, target: Target, wanted: Callable[[str], bool]) -> None:
+    def _take(self, folder: int, path: str, target: Target, wanted: Callable[[str], bool] | None) -> None:
         for name in sorted(os.listdir(folder)):
             with contextlib.suppress(FileNotFoundError):
                 seen = os.stat(name, dir_fd=folder, follow_symlinks=False)
-                if stat.S_ISDIR(seen.st_mode):
+                if stat.S_ISDIR(seen.st_mode) and wanted is None:
+                    self.left_out.append(f"{path}/{name}: is a folder")
+                elif stat.S_ISDIR(seen.st_mode):
                     self._enter(name, folder, f"{path}/{name}", target.folder(name), wanted)
                 elif stat.S_ISLNK(seen.st_mode):
                     os.symlink(os.readlink(name, dir_fd=folder), name, dir_fd=target.handle)
-                elif wanted(name):
+                elif wanted is None or wanted(name):
                     self._open(name, folder, target, name, f"{path}/{name}")
 
-    def _enter(self, name: str, folder: int | None, path: str, target: Target, wanted: Callable[[str], bool]) -> None:
+    def _enter(self, name: str, folder: int | None, path: str, target: Target, wanted: Callable[[str], bool] | None) -> None:
         try:
             with acting_as(self._owner):
                 opened = files.opened(name, _FOLDER, folder=folder)
