@@ -11,7 +11,7 @@ from .files import read_bytes
 from .values import NamedTuple
 
 _MAILNAME = "/etc/mailname"  # Debian's name of the domain of this machine's mail
-_USER = r"\w[\w.+=&'~#$^{}-]*"  # without signs by which a mailer finds another host, a file or a program
+_USER = r"\w[\w.+=&'~#^-]*"  # without signs by which a mailer finds another host, a file, a program or a variable
 _AT_DOMAIN = rf"{_USER}@([A-Za-z0-9.-]+)"
 _PATH = rf"([A-Za-z0-9._-]+)!([A-Za-z0-9._-]+!)*{_USER}"
 
