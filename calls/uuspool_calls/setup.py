@@ -18,7 +18,7 @@ from .errors import LATER, NOT_SET_UP, USAGE, Failure
 from .processes import Ended, Program
 from .session import Session
 from .site import find_from_anywhere, has_bytes, owner_of
-from .texts import is_name, printable
+from .texts import is_name, lines_of, printable
 from .values import Any
 
 _USAGE = (
@@ -116,9 +116,13 @@ class Setup:
     def _ask(self, *words: str, otherwise: Failure, given: str = "") -> str:
         ended = self._session.run_as(self._owner, [self._session.program, *words], given.encode())
         if ended.status:
-            os.write(2, ended.errors)
+            self._show(ended.errors)
             raise otherwise
         return ended.output.decode()
+
+    def _show(self, errors: bytes) -> None:
+        """Prints what a program of the spool's user said, who may have chosen a name in it. root's terminal mustn't obey it."""
+        os.write(2, "".join(f"{printable(line)}\n" for line in lines_of(errors)).encode())
 
     def _add(self, text: str) -> None:
         """Adds a text to the sys file. An editor may have left its last line without an end."""
@@ -181,7 +185,7 @@ class Setup:
         # (Not as root, since the owner may put a link there meanwhile.)
         made = self._session.run_as(self._owner, ["ssh-keygen", "-q", "-t", "ed25519", "-N", "", "-C", self._own, "-f", key])
         if made.status:
-            os.write(2, made.errors)
+            self._show(made.errors)
             raise Failure(LATER, f"ssh-keygen makes no key {key}")
 
     def _public_key(self) -> list[str]:
