@@ -39,6 +39,13 @@ class Commands(Folder):
         self.assertEqual((["-u", "lp", "--", "/usr/bin/lp", "x"], {"duke"}), (lp.line(["x"])[-5:], lp.users))
         self.assertEqual((["sudo", "-n"], ["/r", "x"]), (lp.line([])[:2], rmail.line(["x"])))
 
+    def test_sudo_lets_nobody_choose_the_environment_of_another_user(self) -> None:
+        path = self.put("etc/other", "lp /usr/bin/lp user=lp")
+        self.assertFalse([it for it in commands.find(path, "lp", "b").line([]) if "env" in it])
+        with open(f"{os.path.dirname(__file__)}/../../man/uuspool-deliver.1", encoding="utf-8") as file:
+            page = file.read()
+        self.assertEqual((True, False), ("NOPASSWD: PROGRAM" in page, "NOPASSWD:SETENV" in page))
+
     def test_how_long_a_command_may_work(self) -> None:
         path = self.put("etc/other", "rmail /r limit=10 duke\nrnews /n limit=2 limit=3\nlp /l\nlpr /l limit=x\nlpq /q limit=0\n")
         rmail = commands.find(path, "rmail", "b")

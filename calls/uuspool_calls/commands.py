@@ -9,7 +9,6 @@ from .texts import is_number
 from .values import NamedTuple
 
 _MINUTE = 60  # seconds
-_KEPT = "UUSPOOL_JOB,UUSPOOL_SENDER,UUSPOOL_USER,UUSPOOL_HERE"
 _AS, _LIMIT = "user=", "limit="
 
 
@@ -33,10 +32,9 @@ class Command(NamedTuple):
             raise Refusal(f"{own} lets no word of {self.name} begin with a hyphen: {odd}")
 
     def line(self, words: Sequence[str]) -> list[str]:
-        """What is executed. sudo has to allow it to the spool's user."""
-        if not self.runs_as:
-            return [self.program, *words]
-        return ["sudo", "-n", f"--preserve-env={_KEPT}", "-u", self.runs_as, "--", self.program, *words]
+        """What is executed. sudo has to allow it to the spool's user, and to keep what tells the command of its job. (If sudoers
+        let the spool's user choose that by SETENV, this user could give the program a library of its own.)"""
+        return ["sudo", "-n", "-u", self.runs_as, "--", self.program, *words] if self.runs_as else [self.program, *words]
 
     def seconds(self, usual: int, path: str) -> int:
         """For how long it may work."""
