@@ -57,11 +57,17 @@ class Programs(Folder):
         self.assertEqual(data, self.run_words("cat", given=data).output)
 
     def test_how_much_of_its_input_a_program_read(self) -> None:
-        data, seen = os.urandom(200_000), []
-        script = "head -c 70000; sleep 1.2; head -c 30000 | tail -c 1"
-        program = Program(["sh", "-c", script], self.folder, dict(os.environ))
-        ended = Processes().run(program, data, watch=lambda read, output: seen.append((read, len(output))))
-        self.assertEqual((100_000, 70_001, (70_000, 70_000)), (ended.read, len(ended.output), seen[-2]))
+        data, seen = os.urandom(200_000), set()
+
+        def watch(read: int, output: bytearray) -> None:
+            seen.add((read, len(output)))
+            if (70_000, 70_000) in seen:
+                self.put("seen", "")
+
+        script = "head -c 70000; until [ -e seen ]; do sleep 0.1; done; head -c 30000 | tail -c 1"
+        program = Program(["timeout", "60", "sh", "-c", script], self.folder, dict(os.environ))
+        ended = Processes().run(program, data, watch=watch)
+        self.assertEqual((100_000, 70_001), (ended.read, len(ended.output)))
         self.assertEqual([0, 200_000], [self.sh(script, given=data).read for script in ("exit 1", "cat; exit 1")])
 
     def test_what_writes_too_much(self) -> None:
