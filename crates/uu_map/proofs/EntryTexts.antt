@@ -9,76 +9,111 @@ use Rattle.std.proofs.lemmas.Cmp.{nat_list_cmp_total, then_total, on_total, tied
 use Rattle.uu_map.specs.declared.entry.Link.{Link}
 use Rattle.uu_map.specs.declared.entry.Entry.{Entry}
 use Rattle.uu_map.specs.declared.fault.MapFault.{MapFault}
-use Rattle.uu_map.specs.Statement.{Meaning}
+use Rattle.uu_map.specs.declared.entry.Network.{Network}
+use Rattle.uu_map.specs.Network.{IsNetwork}
+use Rattle.uu_map.specs.Statement.{Meaning, IsStatement}
+use Rattle.uu_map.specs.Internal.NetworkReading.{network_of}
 use Rattle.uu_map.specs.Internal.StatementReading.{statement_of}
 use Rattle.uu_map.specs.Text.{Numbered, host_of, statements_of}
 use Rattle.uu_map.specs.Listing.{listing_cmp, IsListing}
-use Rattle.uu_map.specs.Entry.{IsParsed, aliases_in, links_in, skipped_lines, IsEntry}
-use Rattle.uu_map.specs.Internal.Parsing.{of_one, all_said, Says}
+use Rattle.uu_map.specs.Entry.{Parsed, kept, networked, left_out, IsParsed, aliases_in, links_in, networks_in, skipped_lines, IsEntry}
+use Rattle.uu_map.specs.Internal.Parsing.{parsed_by, parsed_as, of_one, all_said, Says}
 use Rattle.uu_map.proofs.LeastCosts.{cost_total, In, in_from_contains, contains_from_in}
+use Rattle.uu_map.proofs.NetworkTexts.{network_is, network_is_read}
 use Rattle.uu_map.proofs.StatementTexts.{statement_is, statement_is_read}
 
 -- ---- each statement
 
-abbrev meanings : List ℕ → List Numbered → List (Option Meaning)
-meanings host ss = map (λ s. statement_of host s.text) ss
+abbrev all_parsed : List ℕ → List Numbered → List Parsed
+all_parsed host ss = map (λ s. parsed_as host s.text) ss
 
-parsed_one : (host : List ℕ) (s : Numbered) (o : Option Meaning) → statement_of host s.text ≡ o → IsParsed host s o
-parsed_one host s (Some m) e = statement_is host s.text m e
-parsed_one host s None e = λ m is. let impossible : None ≡ Some m = sym e ∙ statement_is_read host s.text m is in cc
+no_statement : (host text : List ℕ) → statement_of host text ≡ None → (m : Meaning) → IsStatement host text m → ⊥
+no_statement host text e m is = let impossible : None ≡ Some m = sym e ∙ statement_is_read host text m is in cc
 
-each_parsed : (host : List ℕ) (ss : List Numbered) → AllZip (IsParsed host) ss (meanings host ss)
+no_network : (text : List ℕ) → network_of text ≡ None → (n : Network) → IsNetwork text n → ⊥
+no_network text e n is = let impossible : None ≡ Some n = sym e ∙ network_is_read text n is in cc
+
+parsed_one : (host : List ℕ) (s : Numbered) (o : Option Meaning) (p : Option Network) → statement_of host s.text ≡ o → network_of s.text ≡ p → IsParsed host s (parsed_by o p)
+parsed_one host s (Some m) p eo ep = statement_is host s.text m eo
+parsed_one host s None (Some n) eo ep = (no_statement host s.text eo, network_is s.text n ep)
+parsed_one host s None None eo ep = (no_statement host s.text eo, no_network s.text ep)
+
+each_parsed : (host : List ℕ) (ss : List Numbered) → AllZip (IsParsed host) ss (all_parsed host ss)
 each_parsed host [] = tt
-each_parsed host (s ∷ ss) = (parsed_one host s (statement_of host s.text) refl, each_parsed host ss)
+each_parsed host (s ∷ ss) = (parsed_one host s (statement_of host s.text) (network_of s.text) refl refl, each_parsed host ss)
 
-parsed_as : (host : List ℕ) (s : Numbered) (o : Option Meaning) → IsParsed host s o → o ≡ statement_of host s.text
-parsed_as host s (Some m) is = sym (statement_is_read host s.text m is)
-parsed_as host s None nothing = go (statement_of host s.text) refl
+unread : (host text : List ℕ) → ((m : Meaning) → IsStatement host text m → ⊥) → statement_of host text ≡ None
+unread host text nothing = go (statement_of host text) refl
   where
-    go : (o : Option Meaning) → statement_of host s.text ≡ o → None ≡ o
+    go : (o : Option Meaning) → statement_of host text ≡ o → o ≡ None
     go None e = refl
-    go (Some m) e = absurd (nothing m (statement_is host s.text m e))
+    go (Some m) e = absurd (nothing m (statement_is host text m e))
 
-parsed_once : (host : List ℕ) (ss : List Numbered) (os : List (Option Meaning)) → AllZip (IsParsed host) ss os → os ≡ meanings host ss
+unread_network : (text : List ℕ) → ((n : Network) → IsNetwork text n → ⊥) → network_of text ≡ None
+unread_network text nothing = go (network_of text) refl
+  where
+    go : (o : Option Network) → network_of text ≡ o → o ≡ None
+    go None e = refl
+    go (Some n) e = absurd (nothing n (network_is text n e))
+
+parsed_so : (host : List ℕ) (s : Numbered) (p : Parsed) → IsParsed host s p → p ≡ parsed_as host s.text
+parsed_so host s (kept m) is = sym (ap (λ o. parsed_by o (network_of s.text)) (statement_is_read host s.text m is))
+parsed_so host s (networked n) (nothing, is) = sym (ap (λ o. parsed_by o (network_of s.text)) (unread host s.text nothing) ∙ ap (parsed_by None) (network_is_read s.text n is))
+parsed_so host s left_out (nothing, none) = sym (ap (λ o. parsed_by o (network_of s.text)) (unread host s.text nothing) ∙ ap (parsed_by None) (unread_network s.text none))
+
+parsed_once : (host : List ℕ) (ss : List Numbered) (ps : List Parsed) → AllZip (IsParsed host) ss ps → ps ≡ all_parsed host ss
 parsed_once host [] [] h = refl
-parsed_once host [] (o ∷ os) h = absurd h
+parsed_once host [] (p ∷ ps) h = absurd h
 parsed_once host (s ∷ ss) [] h = absurd h
-parsed_once host (s ∷ ss) (o ∷ os) h = ap (λ p. p ∷ os) (parsed_as host s o h.0) ∙ ap (λ ps. statement_of host s.text ∷ ps) (parsed_once host ss os h.1)
+parsed_once host (s ∷ ss) (p ∷ ps) h = ap (λ q. q ∷ ps) (parsed_so host s p h.0) ∙ ap (λ qs. parsed_as host s.text ∷ qs) (parsed_once host ss ps h.1)
 
 -- ---- all statements
 
-aliases_of_one : (line : ℕ) (o : Option Meaning) → (of_one line o).aliases ≡ aliases_in o
-aliases_of_one line None = refl
-aliases_of_one line (Some m) = refl
+aliases_of_one : (line : ℕ) (p : Parsed) → (of_one line p).aliases ≡ aliases_in p
+aliases_of_one line (kept m) = refl
+aliases_of_one line (networked n) = refl
+aliases_of_one line left_out = refl
 
-links_of_one : (line : ℕ) (o : Option Meaning) → (of_one line o).links ≡ links_in o
-links_of_one line None = refl
-links_of_one line (Some m) = refl
+links_of_one : (line : ℕ) (p : Parsed) → (of_one line p).links ≡ links_in p
+links_of_one line (kept m) = refl
+links_of_one line (networked n) = refl
+links_of_one line left_out = refl
 
-said_aliases : (host : List ℕ) (ss : List Numbered) → (all_said host ss).aliases ≡ flat_map aliases_in (meanings host ss)
+networks_of_one : (line : ℕ) (p : Parsed) → (of_one line p).networks ≡ networks_in p
+networks_of_one line (kept m) = refl
+networks_of_one line (networked n) = refl
+networks_of_one line left_out = refl
+
+said_aliases : (host : List ℕ) (ss : List Numbered) → (all_said host ss).aliases ≡ flat_map aliases_in (all_parsed host ss)
 said_aliases host [] = refl
-said_aliases host (s ∷ ss) = ap (λ a. a ++ (all_said host ss).aliases) (aliases_of_one s.line (statement_of host s.text)) ∙ ap (λ r. aliases_in (statement_of host s.text) ++ r) (said_aliases host ss)
+said_aliases host (s ∷ ss) = ap (λ a. a ++ (all_said host ss).aliases) (aliases_of_one s.line (parsed_as host s.text)) ∙ ap (λ r. aliases_in (parsed_as host s.text) ++ r) (said_aliases host ss)
 
-said_links : (host : List ℕ) (ss : List Numbered) → (all_said host ss).links ≡ flat_map links_in (meanings host ss)
+said_links : (host : List ℕ) (ss : List Numbered) → (all_said host ss).links ≡ flat_map links_in (all_parsed host ss)
 said_links host [] = refl
-said_links host (s ∷ ss) = ap (λ a. a ++ (all_said host ss).links) (links_of_one s.line (statement_of host s.text)) ∙ ap (λ r. links_in (statement_of host s.text) ++ r) (said_links host ss)
+said_links host (s ∷ ss) = ap (λ a. a ++ (all_said host ss).links) (links_of_one s.line (parsed_as host s.text)) ∙ ap (λ r. links_in (parsed_as host s.text) ++ r) (said_links host ss)
 
-skipped_more : (s : Numbered) (ss : List Numbered) (o : Option Meaning) (os : List (Option Meaning)) (rest : List ℕ) → rest ≡ skipped_lines ss os → (of_one s.line o).skipped ++ rest ≡ skipped_lines (s ∷ ss) (o ∷ os)
-skipped_more s ss None os rest e = ap (λ r. s.line ∷ r) e
-skipped_more s ss (Some m) os rest e = e
+said_networks : (host : List ℕ) (ss : List Numbered) → (all_said host ss).networks ≡ flat_map networks_in (all_parsed host ss)
+said_networks host [] = refl
+said_networks host (s ∷ ss) = ap (λ a. a ++ (all_said host ss).networks) (networks_of_one s.line (parsed_as host s.text)) ∙ ap (λ r. networks_in (parsed_as host s.text) ++ r) (said_networks host ss)
 
-said_skipped : (host : List ℕ) (ss : List Numbered) → (all_said host ss).skipped ≡ skipped_lines ss (meanings host ss)
+skipped_more : (s : Numbered) (ss : List Numbered) (p : Parsed) (ps : List Parsed) (rest : List ℕ) → rest ≡ skipped_lines ss ps → (of_one s.line p).skipped ++ rest ≡ skipped_lines (s ∷ ss) (p ∷ ps)
+skipped_more s ss (kept m) ps rest e = e
+skipped_more s ss (networked n) ps rest e = e
+skipped_more s ss left_out ps rest e = ap (λ r. s.line ∷ r) e
+
+said_skipped : (host : List ℕ) (ss : List Numbered) → (all_said host ss).skipped ≡ skipped_lines ss (all_parsed host ss)
 said_skipped host [] = refl
-said_skipped host (s ∷ ss) = skipped_more s ss (statement_of host s.text) (meanings host ss) (all_said host ss).skipped (said_skipped host ss)
+said_skipped host (s ∷ ss) = skipped_more s ss (parsed_as host s.text) (all_parsed host ss) (all_said host ss).skipped (said_skipped host ss)
 
 -- what the text says about the host that it names is the entry of the text
 pub entry_is : (text host : List ℕ) (entry : Entry) → Ok host ≡ host_of text → Says (all_said host (statements_of text)) host entry → IsEntry text entry
 entry_is text host entry eh says = record {
-  meanings = meanings host (statements_of text);
+  parsed = all_parsed host (statements_of text);
   host = sym eh ∙ ap Ok (sym says.host_is);
-  each = subst (λ (h : List ℕ). AllZip (IsParsed h) (statements_of text) (meanings host (statements_of text))) (sym says.host_is) (each_parsed host (statements_of text));
+  each = subst (λ (h : List ℕ). AllZip (IsParsed h) (statements_of text) (all_parsed host (statements_of text))) (sym says.host_is) (each_parsed host (statements_of text));
   aliases = says.aliases ∙ said_aliases host (statements_of text);
   links = subst (λ (ls : List Link). IsListing ls entry.links) (said_links host (statements_of text)) says.links;
+  networks = says.networks ∙ said_networks host (statements_of text);
   skipped = says.skipped ∙ said_skipped host (statements_of text);
 }
 
@@ -133,11 +168,13 @@ pub one_entry : (text : List ℕ) (a b : Entry) → IsEntry text a → IsEntry t
 one_entry text a b ea eb =
     let hosts : a.host ≡ b.host = ok_same a.host b.host (sym ea.host ∙ eb.host) in
     let ss : List Numbered = statements_of text in
-    let same : ea.meanings ≡ eb.meanings = parsed_once a.host ss ea.meanings ea.each ∙ (ap (λ h. meanings h ss) hosts ∙ sym (parsed_once b.host ss eb.meanings eb.each)) in
+    let same : ea.parsed ≡ eb.parsed = parsed_once a.host ss ea.parsed ea.each ∙ (ap (λ h. all_parsed h ss) hosts ∙ sym (parsed_once b.host ss eb.parsed eb.each)) in
     let aliases : a.aliases ≡ b.aliases = ea.aliases ∙ (ap (flat_map aliases_in) same ∙ sym eb.aliases) in
     let skipped : a.skipped ≡ b.skipped = ea.skipped ∙ (ap (skipped_lines ss) same ∙ sym eb.skipped) in
-    let links : a.links ≡ b.links = one_listing (flat_map links_in eb.meanings) a.links b.links (subst (λ (os : List (Option Meaning)). IsListing (flat_map links_in os) a.links) same ea.links) eb.links in
-    ap (λ (h : List ℕ). let e : Entry = record { host = h; aliases = a.aliases; links = a.links; skipped = a.skipped } in e) hosts
-    ∙ (ap (λ (x : List (List ℕ)). let e : Entry = record { host = b.host; aliases = x; links = a.links; skipped = a.skipped } in e) aliases
-    ∙ (ap (λ (x : List Link). let e : Entry = record { host = b.host; aliases = b.aliases; links = x; skipped = a.skipped } in e) links
-    ∙ ap (λ (x : List ℕ). let e : Entry = record { host = b.host; aliases = b.aliases; links = b.links; skipped = x } in e) skipped))
+    let links : a.links ≡ b.links = one_listing (flat_map links_in eb.parsed) a.links b.links (subst (λ (ps : List Parsed). IsListing (flat_map links_in ps) a.links) same ea.links) eb.links in
+    let networks : a.networks ≡ b.networks = ea.networks ∙ (ap (flat_map networks_in) same ∙ sym eb.networks) in
+    ap (λ (h : List ℕ). let e : Entry = record { host = h; aliases = a.aliases; links = a.links; networks = a.networks; skipped = a.skipped } in e) hosts
+    ∙ (ap (λ (x : List (List ℕ)). let e : Entry = record { host = b.host; aliases = x; links = a.links; networks = a.networks; skipped = a.skipped } in e) aliases
+    ∙ (ap (λ (x : List Link). let e : Entry = record { host = b.host; aliases = b.aliases; links = x; networks = a.networks; skipped = a.skipped } in e) links
+    ∙ (ap (λ (x : List Network). let e : Entry = record { host = b.host; aliases = b.aliases; links = b.links; networks = x; skipped = a.skipped } in e) networks
+    ∙ ap (λ (x : List ℕ). let e : Entry = record { host = b.host; aliases = b.aliases; links = b.links; networks = b.networks; skipped = x } in e) skipped)))

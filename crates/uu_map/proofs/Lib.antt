@@ -3,6 +3,7 @@ pub mod EntryTexts
 pub mod Expressions
 pub mod LeastCosts
 pub mod LinkTexts
+pub mod NetworkTexts
 pub mod Parts
 pub mod Ranks
 pub mod Splits

@@ -58,13 +58,13 @@ site_byte_is_not_blank b h = grind (arith, nat_tests)
 pub site_byte_is_no_mark : (b : ℕ) → is_site_byte b ≡ true → is_mark b ≡ false
 site_byte_is_no_mark b h = grind (arith, nat_tests)
 
-mark_is_not_blank : (b : ℕ) → is_mark b ≡ true → is_blank b ≡ false
+pub mark_is_not_blank : (b : ℕ) → is_mark b ≡ true → is_blank b ≡ false
 mark_is_not_blank b h = grind (arith, nat_tests)
 
 mark_is_no_site_byte : (b : ℕ) → is_mark b ≡ true → is_site_byte b ≡ false
 mark_is_no_site_byte b h = grind (arith, nat_tests)
 
-blank_is_no_site_byte : (b : ℕ) → is_blank b ≡ true → is_site_byte b ≡ false
+pub blank_is_no_site_byte : (b : ℕ) → is_blank b ≡ true → is_site_byte b ≡ false
 blank_is_no_site_byte b h = grind (arith, nat_tests)
 
 blank_is_no_mark : (b : ℕ) → is_blank b ≡ true → is_mark b ≡ false
@@ -125,11 +125,11 @@ parenthesis_is_no_mark : (b : ℕ) → (b == 40) ≡ true → is_mark b ≡ fals
 parenthesis_is_no_mark b h = grind (arith, nat_tests)
 
 -- what comes after a name begins with a blank or a parenthesis, if it isn't empty
-record BehindName (text : List ℕ) : Type 0 where
-  no_site_byte : begins is_site_byte text ≡ false
-  no_mark : begins is_mark text ≡ false
+pub record BehindName (text : List ℕ) : Type 0 where
+  pub no_site_byte : begins is_site_byte text ≡ false
+  pub no_mark : begins is_mark text ≡ false
 
-cost_begins : (text : List ℕ) (cost : Cost) → IsCost text cost → BehindName text
+pub cost_begins : (text : List ℕ) (cost : Cost) → IsCost text cost → BehindName text
 cost_begins [] cost h = record { no_site_byte = refl; no_mark = refl }
 cost_begins (b ∷ bs) cost h = go (is_blank b) refl h
   where
@@ -149,7 +149,7 @@ cost_begins (b ∷ bs) cost h = go (is_blank b) refl h
 
 -- ---- costs
 
-cost_tokens : (text : List ℕ) (cost : Cost) (ts : List Token) → token.tokens text ≡ ts → cost_behind ts ≡ Some cost → IsCost text cost
+pub cost_tokens : (text : List ℕ) (cost : Cost) (ts : List Token) → token.tokens text ≡ ts → cost_behind ts ≡ Some cost → IsCost text cost
 cost_tokens text cost [] e h = inl (e, sym (same_Some (Value 4000) cost h))
 cost_tokens text cost (tokens.Open ∷ ts) e h =
     let (tree, et) = accepted_expression 32 ts cost h in
@@ -166,14 +166,14 @@ cost_tokens text cost (tokens.Additive op ∷ ts) e h = absurd cc
 cost_tokens text cost (tokens.Multiplicative op ∷ ts) e h = absurd cc
 cost_tokens text cost (tokens.Other ∷ ts) e h = absurd cc
 
-cost_is_read : (text : List ℕ) (cost : Cost) → IsCost text cost → cost_behind (token.tokens text) ≡ Some cost
+pub cost_is_read : (text : List ℕ) (cost : Cost) → IsCost text cost → cost_behind (token.tokens text) ≡ Some cost
 cost_is_read text cost (inl (e, is)) = ap cost_behind e ∙ ap Some (sym is)
 cost_is_read text cost (inr (tree, priced)) =
     ap cost_behind priced.written ∙ (reads_expression 32 tree ∙ (ap (λ b. cond b (cost_of (sum_is_dead tree) (sum_value tree)) None) priced.fits ∙ priced.price))
 
 -- ---- links
 
-front_mark : (text : List ℕ) → (mark : List ℕ) × IsMarkAtMost mark × (text ≡ mark ++ skip_mark text)
+pub front_mark : (text : List ℕ) → (mark : List ℕ) × IsMarkAtMost mark × (text ≡ mark ++ skip_mark text)
 front_mark [] = ([], tt, refl)
 front_mark (b ∷ bs) = go (is_mark b) refl
   where
@@ -181,7 +181,7 @@ front_mark (b ∷ bs) = go (is_mark b) refl
     go true e = (b ∷ [], e, refl)
     go false e = ([], tt, refl)
 
-site_name_is : (text name : List ℕ) → site_name text ≡ Some name → (IsTrue (is_site_name name)) × (text ≡ name)
+pub site_name_is : (text name : List ℕ) → site_name text ≡ Some name → (IsTrue (is_site_name name)) × (text ≡ name)
 site_name_is text name = go (is_site_name text) refl
   where
     go : (t : Bool) → is_site_name text ≡ t → cond t (Some text) None ≡ Some name → (IsTrue (is_site_name name)) × (text ≡ name)
@@ -239,7 +239,7 @@ name_begins (b ∷ bs) rest h =
     let passes : is_site_byte b ≡ true = and_first (is_site_byte b) (list_all is_site_byte bs) (name_passes (b ∷ bs) h) in
     (site_byte_is_not_blank b passes, ap (λ t. cond t (bs ++ rest) (b ∷ (bs ++ rest))) (site_byte_is_no_mark b passes))
 
-behind_mark : (mark text : List ℕ) → IsMarkAtMost mark → begins is_mark text ≡ false → skip_mark (mark ++ text) ≡ text
+pub behind_mark : (mark text : List ℕ) → IsMarkAtMost mark → begins is_mark text ≡ false → skip_mark (mark ++ text) ≡ text
 behind_mark [] [] m h = refl
 behind_mark [] (b ∷ bs) m h = ap (λ t. cond t bs (b ∷ bs)) h
 behind_mark (b ∷ []) text m h = ap (λ t. cond t text (b ∷ text)) m

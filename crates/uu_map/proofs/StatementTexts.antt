@@ -50,11 +50,11 @@ links_are_read : (list : List ℕ) (links : List Link) → AllZip IsLink (elemen
 unfolding list_of
 links_are_read list links h = each_is_read link_of IsLink link_is_read (elements list) links h
 
-aliases_are : (list : List ℕ) (aliases : List (List ℕ)) → list_of alias_of list ≡ Some aliases → AllZip IsAlias (elements list) aliases
+pub aliases_are : (list : List ℕ) (aliases : List (List ℕ)) → list_of alias_of list ≡ Some aliases → AllZip IsAlias (elements list) aliases
 unfolding list_of
 aliases_are list aliases e = each_is alias_of IsAlias alias_is (elements list) aliases e
 
-aliases_are_read : (list : List ℕ) (aliases : List (List ℕ)) → AllZip IsAlias (elements list) aliases → list_of alias_of list ≡ Some aliases
+pub aliases_are_read : (list : List ℕ) (aliases : List (List ℕ)) → AllZip IsAlias (elements list) aliases → list_of alias_of list ≡ Some aliases
 unfolding list_of
 aliases_are_read list aliases h = each_is_read alias_of IsAlias alias_is_read (elements list) aliases h
 
@@ -86,7 +86,7 @@ equals_is_no_mark b h = grind (arith, nat_tests)
 equals_is_no_site_byte : (b : ℕ) → is_equals b ≡ true → is_site_byte b ≡ false
 equals_is_no_site_byte b h = grind (arith, nat_tests)
 
-equals_is : (b : ℕ) → is_equals b ≡ true → b ≡ byte "="
+pub equals_is : (b : ℕ) → is_equals b ≡ true → b ≡ byte "="
 equals_is b h = grind (arith, nat_tests)
 
 record FirstPart (list : List ℕ) : Type 0 where

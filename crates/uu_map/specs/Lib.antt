@@ -4,6 +4,7 @@ pub mod Expression
 pub mod Fault
 pub mod Internal
 pub mod Listing
+pub mod Network
 pub mod Split
 pub mod Statement
 pub mod Text

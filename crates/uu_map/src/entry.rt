@@ -32,6 +32,17 @@ pub struct Link {
     pub cost: Cost,
 }
 
+/// Sites of which each has a link to each other one.
+#[derive(Debug, Drop)]
+pub struct Network {
+    /// Its name. It is no site's.
+    pub name: SiteName,
+    /// Its sites, in the order of the text, with repeats.
+    pub sites: Listed<SiteName>,
+    /// What each of these links costs.
+    pub cost: Cost,
+}
+
 /// What a map entry says about its host.
 #[derive(Debug, Drop)]
 pub struct Entry {
@@ -41,6 +52,8 @@ pub struct Entry {
     pub aliases: Listed<SiteName>,
     /// Its neighbours, each with its least cost, by cost and then by the bytes of the name.
     pub links: Listed<Link>,
+    /// The networks that its text declares, in the order of the text.
+    pub networks: Listed<Network>,
     /// The lines on which skipped statements begin, counted from 1 within the entry.
     pub skipped: Listed<u32>,
 }

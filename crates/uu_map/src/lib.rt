@@ -5,13 +5,14 @@ mod entry;
 mod expression;
 mod fault;
 mod least;
+mod network;
 mod reader;
 mod splitter;
 mod statement;
 mod text;
 mod token;
 
-pub use entry::{Cost, Entry, EntryText, Link};
+pub use entry::{Cost, Entry, EntryText, Link, Network};
 pub use fault::MapFault;
 pub use reader::{MAX_ENTRY, entry_host, read_entry};
 pub use splitter::split;

@@ -8,9 +8,10 @@ ghost use Rattle.uu_map.specs.Token.{begins};
 ghost use Rattle.uu_names.specs.Text.{is_blank};
 ghost use Rattle.uu_map.specs.Internal.Parsing.{all_said, nothing_said, as_said, Says};
 
-use crate::entry::{Entry, Link};
+use crate::entry::{Entry, Link, Network};
 use crate::fault::MapFault;
 use crate::least::listed;
+use crate::network::network_of;
 use crate::statement::{is_all_blank, site_name, statement_of};
 use crate::text::{before_comment, is_name_line, named_by};
 use std::alloc::{AllocError, Global};
@@ -62,6 +63,7 @@ fn host(alloc: Global, text: &[u8]) -> Result<SiteName, MapFault>
 pub(crate) struct Parsed {
     pub(crate) aliases: Vec<SiteName>,
     pub(crate) links: Vec<Link>,
+    pub(crate) networks: Vec<Network>,
     pub(crate) skipped: Vec<u32>,
 }
 
@@ -104,8 +106,7 @@ fn begins_with_blank(text: &[u8]) -> bool
 }
 
 impl Parsed {
-    ghost use Rattle.uu_map.specs.Internal.Parsing.{then_said, of_one, numbered_of, pending_list, in_all};
-    ghost use Rattle.uu_map.specs.Internal.StatementReading.{statement_of};
+    ghost use Rattle.uu_map.specs.Internal.Parsing.{then_said, of_one, parsed_as, numbered_of, pending_list, in_all};
 
     fn new(alloc: Global) -> Parsed
         ensures { as_said result ≡ nothing_said }
@@ -113,16 +114,20 @@ impl Parsed {
         Parsed {
             aliases: Vec::new(alloc),
             links: Vec::new(alloc),
+            networks: Vec::new(alloc),
             skipped: Vec::new(alloc),
         }
     }
 
     // Adds what a statement says, or its line if it is skipped.
     fn add(&mut self, alloc: Global, host: &[u8], statement: &Pending) -> Result<(), AllocError>
-        ensures { IfOk result (λ _. as_said self.new ≡ then_said (as_said self.old) (of_one statement.now.line (statement_of host.now statement.now.text.items))) }
+        ensures { IfOk result (λ _. as_said self.new ≡ then_said (as_said self.old) (of_one statement.now.line (parsed_as host.now statement.now.text.items))) }
     {
         match statement_of(alloc, host, &statement.text)? {
-            None => self.skipped.push(statement.line)?,
+            None => match network_of(alloc, &statement.text)? {
+                None => self.skipped.push(statement.line)?,
+                Some(network) => self.networks.push(network)?,
+            },
             Some(mut said) => {
                 self.aliases.append(&mut said.aliases)?;
                 self.links.append(&mut said.links)?;
@@ -200,6 +205,7 @@ impl Parsed {
         let Parsed {
             aliases,
             links,
+            networks,
             skipped,
         } = self;
         let links = listed(alloc, links)?;
@@ -207,6 +213,7 @@ impl Parsed {
             host,
             aliases: Listed::from_vec(aliases),
             links: Listed::from_vec(links),
+            networks: Listed::from_vec(networks),
             skipped: Listed::from_vec(skipped),
         })
     }
@@ -221,8 +228,8 @@ fn entry_of(alloc: Global, host: SiteName, text: &[u8]) -> Result<Entry, AllocEr
     parsed.into_entry(alloc, host)
 }
 
-/// Reads a map entry: the host that its first `#N` line names, its aliases, its links, and the
-/// lines of what was skipped. A statement that can't be read is skipped whole.
+/// Reads a map entry: the host that its first `#N` line names, its aliases, its links, its networks,
+/// and the lines of what was skipped. A statement that can't be read is skipped whole.
 ///
 /// The errors are checked in this order. A text of more than 65,536 bytes is
 /// [`MapFault::TooLarge`], one that names no host [`MapFault::NoName`], and one whose host isn't a

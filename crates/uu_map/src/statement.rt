@@ -36,14 +36,14 @@ pub(crate) fn is_all_blank(text: &[u8]) -> bool
     text.iter().all(|byte| is_blank(*byte))
 }
 
-fn skip_blanks(text: &[u8]) -> &[u8]
+pub(crate) fn skip_blanks(text: &[u8]) -> &[u8]
     ensures { result.now ≡ skip is_blank text.now }
 {
     let (_, rest) = text.split_at(blanks_len(text));
     rest
 }
 
-fn skip_mark(text: &[u8]) -> &[u8]
+pub(crate) fn skip_mark(text: &[u8]) -> &[u8]
     ensures { result.now ≡ skip_mark text.now }
 {
     match text {
@@ -53,14 +53,14 @@ fn skip_mark(text: &[u8]) -> &[u8]
 }
 
 // The length of the longest prefix whose bytes a name may have.
-fn name_len(text: &[u8]) -> usize
+pub(crate) fn name_len(text: &[u8]) -> usize
     ensures value { result ≡ prefix_len is_site_byte text.now }
     ensures bound { result ≤ length text.now }
 {
     text.iter().take_while(|byte| is_site_byte(**byte)).count()
 }
 
-fn cost_behind(alloc: Global, text: &[u8]) -> Result<Option<Cost>, AllocError>
+pub(crate) fn cost_behind(alloc: Global, text: &[u8]) -> Result<Option<Cost>, AllocError>
     ensures { IfOk result (λ cost. cost ≡ cost_behind (tokens text.now)) }
 {
     match next_token(text) {
@@ -151,7 +151,7 @@ fn links_of(alloc: Global, list: &[u8]) -> Result<Option<Vec<Link>>, AllocError>
     Ok(Some(links))
 }
 
-fn aliases_of(alloc: Global, list: &[u8]) -> Result<Option<Vec<SiteName>>, AllocError>
+pub(crate) fn aliases_of(alloc: Global, list: &[u8]) -> Result<Option<Vec<SiteName>>, AllocError>
     ensures { IfOk result (λ aliases. option_map (λ v. v.items) aliases ≡ list_of alias_of list.now) }
 {
     let mut aliases = Vec::new(alloc);
