@@ -1,5 +1,5 @@
 -- The net of the named links has these links and no other.
-use Rattle.std.proofs.Common.{◌≡◌, ℕ, zero, suc, ◌<◌, ◌≤◌, ◌⊎◌, List, [], ◌∷◌, ◌++◌, length, get_or, map, refl, sym, ap, ◌∙◌, subst, inl, inr, arith}
+use Rattle.std.proofs.Common.{◌≡◌, ◌↔◌, ℕ, zero, suc, ◌<◌, ◌≤◌, ◌⊎◌, List, [], ◌∷◌, ◌++◌, length, get_or, map, refl, sym, ap, ◌∙◌, subst, inl, inr, arith}
 use Rattle.std.specs.Prelude.{replicate, All, Contains}
 use Rattle.std.specs.List.Sorted.{IsStrictlySortedBy}
 use Rattle.std.proofs.lemmas.Bool.{cases_eq, cases_lt}
@@ -41,6 +41,16 @@ in_either : {X : Type 0} → (xs ys : List X) (x : X) → In (xs ++ ys) x → In
 in_either [] ys x i = inr i
 in_either (z ∷ xs) ys x (inl e) = inl (inl e)
 in_either (z ∷ xs) ys x (inr i) = elim (in_either xs ys x i) [ inl j ↦ inl (inr j) | inr j ↦ inr j ]
+
+-- what is added to lists that have the same names
+pub append_same : (xs ys zs : List (List ℕ)) → ((name : List ℕ) → Contains xs name ↔ Contains ys name) → (name : List ℕ) → Contains (xs ++ zs) name ↔ Contains (ys ++ zs) name
+append_same xs ys zs same name = (go xs ys (λ other. (same other).0), go ys xs (λ other. (same other).1))
+  where
+    go : (ps qs : List (List ℕ)) → ((other : List ℕ) → Contains ps other → Contains qs other) → Contains (ps ++ zs) name → Contains (qs ++ zs) name
+    go ps qs there c = elim (in_either ps zs name (contains_in (ps ++ zs) name c)) [
+      | inl i ↦ in_contains (qs ++ zs) name (in_left qs zs name (contains_in qs name (there name (in_contains ps name i))))
+      | inr i ↦ in_contains (qs ++ zs) name (in_right qs zs name i)
+    ]
 
 -- ---- tables
 

@@ -124,12 +124,18 @@ deduped xs ys f = dedup_is (pointwise nat_eq) xs ys f ∙ ap (λ (E : List ℕ �
 same_name : (a b : List ℕ) → eq_by_cmp name_cmp a b ≡ true → a ≡ b
 same_name a b e = exact_bytes a b ((Equal-is (name_cmp a b)).0 e)
 
-pub names_same : (xs ys zs : List (List ℕ)) → IsPermutation xs ys → IsFiltered (DiffersFromLast (pointwise nat_eq)) [] ys zs → (name : List ℕ) → Contains zs name ↔ Contains xs name
-names_same xs ys zs p f name =
+pub once_same : (ys zs : List (List ℕ)) → IsFiltered (DiffersFromLast (pointwise nat_eq)) [] ys zs → (name : List ℕ) → Contains zs name ↔ Contains ys name
+once_same ys zs f name =
     let e : zs ≡ dedup (eq_by_cmp name_cmp) ys = deduped ys zs f in (
-      λ c. Contains-permutation ys xs name (IsPermutation-sym xs ys p) (Contains-from_dedup (eq_by_cmp name_cmp) ys name (subst (λ l. Contains l name) e c)),
-      λ c. subst (λ l. Contains l name) (sym e) (Contains-dedup same_equivalence same_name ys name (Contains-permutation xs ys name p c)),
+      λ c. Contains-from_dedup (eq_by_cmp name_cmp) ys name (subst (λ l. Contains l name) e c),
+      λ c. subst (λ l. Contains l name) (sym e) (Contains-dedup same_equivalence same_name ys name c),
     )
+
+pub names_same : (xs ys zs all : List (List ℕ)) → ((name : List ℕ) → Contains xs name ↔ Contains all name) → IsPermutation xs ys → IsFiltered (DiffersFromLast (pointwise nat_eq)) [] ys zs → (name : List ℕ) → Contains zs name ↔ Contains all name
+names_same xs ys zs all same p f name = (
+  λ c. (same name).0 (Contains-permutation ys xs name (IsPermutation-sym xs ys p) ((once_same ys zs f name).0 c)),
+  λ c. (once_same ys zs f name).1 (Contains-permutation xs ys name p ((same name).1 c)),
+)
 
 pub names_strictly : (ys zs : List (List ℕ)) → IsSorted name_cmp ys → IsFiltered (DiffersFromLast (pointwise nat_eq)) [] ys zs → IsStrictlySortedBy name_cmp zs
 names_strictly ys zs up f = subst (λ l. IsStrictlySortedBy name_cmp l) (sym (deduped ys zs f)) (IsStrictlySortedBy-dedup nat_list_cmp_total (λ x y. refl) ys up)

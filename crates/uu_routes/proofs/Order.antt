@@ -1,5 +1,5 @@
 -- The order of labels.
-use Rattle.std.proofs.Common.{◌≡◌, ℕ, ◌+◌, true, false, List, [], ◌∷◌, ◌++◌, length, Ordering, refl, ap, ◌∙◌, arith, length-append}
+use Rattle.std.proofs.Common.{◌≡◌, ℕ, ◌+◌, true, false, List, [], ◌∷◌, ◌++◌, length, slice_index_or, Ordering, refl, sym, ap, ◌∙◌, arith, length-append}
 use Rattle.std.specs.declared.cmp.Ordering.TheVariants.{Less, Equal, Greater}
 use Rattle.std.specs.Ordering.{nat_cmp, ordering_then, ordering_reverse, is_lt, is_gt}
 use Rattle.std.specs.Cmp.{IsTotalOrder}
@@ -70,3 +70,40 @@ onward_alike a b e =
 
 pub onward_up_to : (a b : Label) (e : Edge) → IsUpTo a b → IsUpTo (onward a e) (onward b e)
 onward_up_to a b e h = ap is_gt (onward_alike a b e) ∙ h
+
+-- ---- a way and a link, compared with another way
+
+then_equal : (x : Ordering) → ordering_then x Equal ≡ x
+then_equal Less = refl
+then_equal Equal = refl
+then_equal Greater = refl
+
+then_grouped : (x y z : Ordering) → ordering_then x (ordering_then y z) ≡ ordering_then (ordering_then x y) z
+then_grouped Less y z = refl
+then_grouped Equal y z = refl
+then_grouped Greater y z = refl
+
+ends_compared : (p q : List ℕ) (v w : ℕ) → length p ≡ length q → slice_cmp nat_cmp (p ++ v ∷ []) (q ++ w ∷ []) ≡ ordering_then (slice_cmp nat_cmp p q) (nat_cmp v w)
+ends_compared [] [] v w e = then_equal (nat_cmp v w)
+ends_compared [] (y ∷ q) v w e = absurd (omega arith)
+ends_compared (x ∷ p) [] v w e = absurd (omega arith)
+ends_compared (x ∷ p) (y ∷ q) v w e = ap (ordering_then (nat_cmp x y)) (ends_compared p q v w (omega arith)) ∙ then_grouped (nat_cmp x y) (slice_cmp nat_cmp p q) (nat_cmp v w)
+
+only_one : (last : List ℕ) → length last ≡ 1 → last ≡ slice_index_or last 0 0 ∷ []
+only_one [] e = absurd (omega arith)
+only_one (x ∷ []) e = refl
+only_one (x ∷ y ∷ last) e = absurd (omega arith)
+
+pub split_compared : (p other front last : List ℕ) (v : ℕ) → length front ≡ length p → length last ≡ 1 → other ≡ front ++ last → ordering_then (slice_cmp nat_cmp p front) (nat_cmp v (slice_index_or last 0 0)) ≡ slice_cmp nat_cmp (p ++ v ∷ []) other
+split_compared p other front last v e one split =
+    sym (ap (slice_cmp nat_cmp (p ++ v ∷ [])) (split ∙ ap (λ l. front ++ l) (only_one last one)) ∙ ends_compared p front v (slice_index_or last 0 0) (sym e))
+
+-- what the order of costs and numbers of hosts is, if it was found by the parts
+pub below_by : (base : Label) (e : Edge) (other : Label) (p q : List ℕ) (a b o : Ordering) → p ≡ base.path → q ≡ other.path → a ≡ nat_cmp (base.cost + e.cost) other.cost → b ≡ nat_cmp (length p + 1) (length q) → o ≡ ordering_then a b
+    → is_lt (ordering_then o (slice_cmp nat_cmp (p ++ e.to ∷ []) q)) ≡ is_below (onward base e) other
+unfolding is_below
+below_by base e other p q a b o front back costs hops is =
+    ap (λ x. is_lt (ordering_then x (slice_cmp nat_cmp (p ++ e.to ∷ []) q))) (is ∙ (ap (λ x. ordering_then x b) costs ∙ ap (ordering_then (nat_cmp (base.cost + e.cost) other.cost)) hops))
+    ∙ (ap (λ x. is_lt (ordering_then (ordering_then (nat_cmp (base.cost + e.cost) other.cost) (nat_cmp (length x + 1) (length q))) (slice_cmp nat_cmp (x ++ e.to ∷ []) q))) front
+    ∙ (ap (λ x. is_lt (ordering_then (ordering_then (nat_cmp (base.cost + e.cost) other.cost) (nat_cmp (length base.path + 1) (length x))) (slice_cmp nat_cmp (base.path ++ e.to ∷ []) x))) back
+    ∙ ap (λ n. is_lt (ordering_then (ordering_then (nat_cmp (base.cost + e.cost) other.cost) (nat_cmp n (length other.path))) (slice_cmp nat_cmp (base.path ++ e.to ∷ []) other.path))) (sym (length-append base.path (e.to ∷ [])))))

@@ -1,16 +1,17 @@
 -- After each round, the least ways of one host more are known.
-use Rattle.std.proofs.Common.{◌≡◌, ℕ, zero, suc, ◌+◌, ◌*◌, ◌<◌, ◌≤◌, ◌⊎◌, ◌||◌, Bool, true, false, List, [], ◌∷◌, ◌++◌, length, get_or, drop, reverse, Option, Some, None, refl, sym, ap, ◌∙◌, inl, inr, subst, arith, All, replicate}
+use Rattle.std.proofs.Common.{◌≡◌, ℕ, zero, suc, ◌+◌, ◌*◌, ◌<◌, ◌≤◌, ◌==◌, ◌⊎◌, Bool, true, false, cond, List, [], ◌∷◌, ◌++◌, length, get_or, drop, map, reverse, Option, Some, None, refl, sym, ap, ◌∙◌, inl, inr, subst, arith, All, replicate}
 use Rattle.std.specs.Prelude.{Contains, slice_set}
 use Rattle.std.specs.List.{AllByRecursion}
-use Rattle.std.proofs.lemmas.Bool.{cases_lt}
-use Rattle.std.proofs.lemmas.List.{length-replicate, length-set, get_or-replicate, reverse-append}
+use Rattle.std.proofs.lemmas.Bool.{cases_eq, cases_lt}
+use Rattle.std.proofs.lemmas.Bool.Decides.{nat_tests}
+use Rattle.std.proofs.lemmas.List.{length-map, length-replicate, length-reverse, length-set, get_or-map, get_or-replicate, reverse-append}
 use Rattle.std.proofs.lemmas.List.Elements.{All-contains, recursion_from_All}
 use Rattle.uu_routes.specs.declared.net.Edge.{Edge}
 use Rattle.uu_routes.specs.declared.net.Net.{Net}
 use Rattle.uu_routes.specs.declared.label.Label.{Label}
 use Rattle.uu_routes.specs.Way.{IsWay}
 use Rattle.uu_routes.specs.Links.{most_hops}
-use Rattle.uu_routes.specs.Internal.Labels.{start, label_at, improved, onward, relaxed, followed, rounded}
+use Rattle.uu_routes.specs.Internal.Labels.{start, label_at, improved, onward, relaxed, followed, rounded, way_of}
 use Rattle.uu_routes.specs.Internal.Nets.{Goes, edges_after, IsWayTo, IsFound, AreFound, IsFit, IsFitNet, AreSound, most_cost}
 use Rattle.uu_routes.proofs.Order.{onward_up_to}
 use Rattle.uu_routes.proofs.Easing.{Reaches, reaches_more, In, IsEased, eased}
@@ -78,6 +79,39 @@ rounded_is (es ∷ links) (o ∷ known) ls h =
       ];
     }
 
+-- ---- the ways of so many hosts
+
+way_at : (n : ℕ) (known : List (Option Label)) (u : ℕ) → label_at (map (way_of n) known) u ≡ way_of n (label_at known u)
+way_at n [] u = refl
+way_at n (o ∷ known) zero = refl
+way_at n (o ∷ known) (suc u) = way_at n known u
+
+way_if : (n : ℕ) (l : Label) → length l.path ≡ n → way_of n (Some l) ≡ Some l
+way_if n l e = let same : (length l.path == n) ≡ true = grind (arith, nat_tests, e) in ap (λ t. cond t (Some l) None) same
+
+none_if : (n : ℕ) (l : Label) → (length l.path ≡ n → ⊥) → way_of n (Some l) ≡ None
+none_if n l other = go (length l.path == n) refl
+  where
+    go : (t : Bool) → (length l.path == n) ≡ t → cond t (Some l) None ≡ None
+    go true e = absurd (other (let same : length l.path ≡ n = grind (arith, nat_tests, e) in same))
+    go false e = refl
+
+way_known : (n : ℕ) (o : Option Label) (base : Label) → way_of n o ≡ Some base → o ≡ Some base
+way_known n None base e = e
+way_known n (Some l) base e = go (length l.path == n) e
+  where
+    go : (t : Bool) → cond t (Some l) None ≡ Some base → Some l ≡ Some base
+    go true e = e
+    go false e = absurd cc
+
+known_from : (n : ℕ) (known : List (Option Label)) (u : ℕ) (base : Label) → label_at (map (way_of n) known) u ≡ Some base → label_at known u ≡ Some base
+known_from n known u base at = way_known n (label_at known u) base (sym (way_at n known u) ∙ at)
+
+none_follow : (links : List (List Edge)) (ways ls : List (Option Label)) → AllByRecursion (λ way. way ≡ None) ways → rounded links ways ls ≡ ls
+none_follow [] ways ls h = refl
+none_follow (es ∷ links) [] ls h = refl
+none_follow (es ∷ links) (o ∷ ways) ls h = ap (λ (p : Option Label). rounded links ways (followed p es ls)) h.0 ∙ none_follow links ways ls h.1
+
 -- ---- ways
 
 module _ (net : Net) where
@@ -130,16 +164,17 @@ module _ (net : Net) where
 
   -- ---- one round more
 
-  pub found_more : (most : ℕ) (known new : List (Option Label)) → 1 ≤ most → AreFound net most known → IsRounded net.links known known new → AreFound net (suc most) new
+  longer : (most u : ℕ) (us : List ℕ) (base : Label) (e : Edge) → base.path ≡ reverse (u ∷ us) → IsWay (Goes net) (u ∷ us) base.cost → In (get_or net.links u []) e → suc (length us) < most → IsWayTo net most e.to (onward base e)
+  longer most u us base e path way j few = (u ∷ us, (ap (λ p. p ++ e.to ∷ []) path ∙ sym (reverse-append (e.to ∷ []) (u ∷ us)), (base.cost, (e.cost, (in_contains (get_or net.links u []) e j, way, refl))), few))
+
+  found_more : (most : ℕ) (known new : List (Option Label)) → 1 ≤ most → AreFound net most known → IsRounded net.links known known new → AreFound net (suc most) new
   found_more most known new some found it = record {
     size = it.size ∙ found.size;
     each = λ i. found_from (suc most) i (label_at new i) (sound i) (reached i);
   }
     where
       onto : (u i : ℕ) (base : Label) (e : Edge) → IsWayTo net most u base → In (get_or net.links u []) e → e.to ≡ i → IsWayTo net (suc most) i (onward base e)
-      onto u i base e (us, (path, way, h)) j to =
-          subst (λ (n : ℕ). IsWayTo net (suc most) n (onward base e)) to
-          (u ∷ us, (ap (λ p. p ++ e.to ∷ []) path ∙ sym (reverse-append (e.to ∷ []) (u ∷ us)), (base.cost, (e.cost, (in_contains (get_or net.links u []) e j, way, refl))), omega arith))
+      onto u i base e (us, (path, way, h)) j to = subst (λ (n : ℕ). IsWayTo net (suc most) n (onward base e)) to (longer (suc most) u us base e path way j (omega arith))
 
       sound : (i : ℕ) (l : Label) → label_at new i ≡ Some l → IsWayTo net (suc most) i l
       sound i l f = elim (it.from i l f) [
@@ -199,7 +234,7 @@ module _ (net : Net) where
   links_fit : IsFitNet net → (n : ℕ) → n ≡ length net.links → All (λ es. All (λ e. e.to < n) es) net.links
   links_fit fit n same k d h = λ j x i. subst (λ m. (get_or (get_or net.links k d) j x).to < m) (sym same) (fit.links k d h j x i).within
 
-  pub are_sound : IsFitNet net → (most : ℕ) (known : List (Option Label)) → most ≤ most_hops → AreFound net most known → AreSound net.links known
+  are_sound : IsFitNet net → (most : ℕ) (known : List (Option Label)) → most ≤ most_hops → AreFound net most known → AreSound net.links known
   are_sound fit most known few found = record {
     size = found.size;
     within = links_fit fit (length known) found.size;
@@ -228,17 +263,65 @@ module _ (net : Net) where
       found_at_start ls (subst (λ (new : List (Option Label)). IsEased start net.first blank new) (sym same)
       (eased start net.first blank (recursion_from_All _ net.first (λ k d h. subst (λ m. (get_or net.first k d).to < m) (sym (length-replicate (length net.links) None)) (fit.first k d h).within))))
 
-  pub next_found : IsFitNet net → (most : ℕ) (known new : List (Option Label)) → 1 ≤ most → AreFound net most known → new ≡ rounded net.links known known → AreFound net (suc most) new
-  next_found fit most known new some found is =
-      found_more most known new some found (subst (λ (ls : List (Option Label)). IsRounded net.links known known ls) (sym is)
-      (rounded_is net.links known known (all_within (length known) (links_fit fit (length known) found.size))))
+  -- only the ways of so many hosts go on: the others went on in earlier rounds
+  pub next_found : IsFitNet net → (most : ℕ) (known new : List (Option Label)) → 1 ≤ most → AreFound net most known → new ≡ rounded net.links (map (way_of most) known) known → AreFound net (suc most) new
+  next_found fit most known new some found is = found_more most known new some found (record {
+    size = it.size;
+    from = λ i l f. elim (it.from i l f) [
+      | inl g ↦ inl g
+      | inr (u, (base, (e, (at, r)))) ↦ inr (u, (base, (e, (known_from most known u base at, r))))
+    ];
+    lower = it.lower;
+    met = met;
+  })
+    where
+      it : IsRounded net.links (map (way_of most) known) known new
+      it = subst (λ (ls : List (Option Label)). IsRounded net.links (map (way_of most) known) known ls) (sym is)
+          (rounded_is net.links (map (way_of most) known) known (all_within (length known) (links_fit fit (length known) found.size)))
 
-  -- a round that changes nothing is the last
-  pub steady : IsFitNet net → (most : ℕ) (known : List (Option Label)) → 1 ≤ most → AreFound net most known → known ≡ rounded net.links known known → (more : ℕ) → AreFound net (most + more) known
-  steady fit most known some found same zero = subst (λ n. AreFound net n known) (let e : most ≡ most + zero = omega arith in e) found
-  steady fit most known some found same (suc more) =
-      subst (λ n. AreFound net n known) (let e : suc (most + more) ≡ most + suc more = omega arith in e)
-      (next_found fit (most + more) known known (omega arith) (steady fit most known some found same more) same)
+      shorter : (u : ℕ) (base : Label) (e : Edge) → IsWayTo net most u base → (length base.path ≡ most → ⊥) → In (get_or net.links u []) e → IsWayTo net most e.to (onward base e)
+      shorter u base e (us, (path, way, h)) other j =
+          let size : length base.path ≡ suc (length us) = ap length path ∙ length-reverse (u ∷ us) in
+          elim (cases_lt (suc (length us)) most) [
+            | inl few ↦ longer most u us base e path way j few
+            | inr many ↦ absurd (other (let same : length base.path ≡ most = omega arith in same))
+          ]
+
+      met : (u : ℕ) (base : Label) (e : Edge) → label_at known u ≡ Some base → In (get_or net.links u []) e → Reaches (label_at new e.to) (onward base e)
+      met u base e at j = elim (cases_eq (length base.path) most) [
+        | inl s ↦ it.met u base e (way_at most known u ∙ (ap (way_of most) at ∙ way_if most base s)) j
+        | inr n ↦ it.lower e.to (onward base e) (reached_of most e.to (label_at known e.to) (found.each e.to) (onward base e) (shorter u base e (sound_of most u (label_at known u) base (found.each u) at) n j))
+      ]
+
+  pub are_sound_ways : IsFitNet net → (most : ℕ) (known ways : List (Option Label)) → most ≤ most_hops → AreFound net most known → ways ≡ map (way_of most) known → AreSound net.links ways
+  are_sound_ways fit most known ways few found is = record {
+    size = size;
+    within = links_fit fit (length ways) size;
+    sums = λ u base at. (are_sound fit most known few found).sums u base (known_from most known u base (ap (λ (ls : List (Option Label)). label_at ls u) (sym is) ∙ at));
+  }
+    where
+      size : length ways ≡ length net.links
+      size = ap length is ∙ (length-map known (way_of most) ∙ found.size)
+
+  -- if no way has so many hosts, none has more
+  none_longer : (most k : ℕ) (o : Option Label) → IsFound net most k o → way_of (suc most) o ≡ None
+  none_longer most k None found = refl
+  none_longer most k (Some l) found = none_if (suc most) l (λ same. too_long found.way same)
+    where
+      too_long : IsWayTo net most k l → length l.path ≡ suc most → ⊥
+      too_long (us, (path, way, h)) same = let size : length l.path ≡ suc (length us) = ap length path ∙ length-reverse (k ∷ us) in absurd (omega arith)
+
+  pub steady : IsFitNet net → (most : ℕ) (known : List (Option Label)) → 1 ≤ most → AreFound net most known → All (λ way. way ≡ None) (map (way_of most) known) → (more : ℕ) → AreFound net (most + more) known
+  steady fit most known some found none zero = subst (λ n. AreFound net n known) (let e : most ≡ most + zero = omega arith in e) found
+  steady fit most known some found none (suc more) =
+      subst (λ n. AreFound net n known) (let e : suc most + more ≡ most + suc more = omega arith in e)
+      (steady fit (suc most) known (omega arith) next_too none_too more)
+    where
+      next_too : AreFound net (suc most) known
+      next_too = next_found fit most known known some found (sym (none_follow net.links (map (way_of most) known) known (recursion_from_All _ (map (way_of most) known) none)))
+
+      none_too : All (λ way. way ≡ None) (map (way_of (suc most)) known)
+      none_too k d h = get_or-map (way_of (suc most)) known k None d (let low : k < length known = omega (arith, h, length-map known (way_of (suc most))) in low) ∙ none_longer most k (label_at known k) (found.each k)
 
 -- ---- one host of a round
 
@@ -271,7 +354,3 @@ pub edges_known : (links : List (List Edge)) (i : ℕ) (es : List Edge) → i < 
 edges_known [] i es h e = absurd (omega arith)
 edges_known (x ∷ links) zero es h e = sym e
 edges_known (x ∷ links) (suc i) es h e = edges_known links i es (omega arith) e
-
-pub none_changed : (a b : Bool) → a || b ≡ false → (a ≡ false) × (b ≡ false)
-none_changed true b e = absurd cc
-none_changed false b e = (refl, e)

@@ -7,7 +7,7 @@ ghost use Rattle.std.specs.BTreeMap.{get};
 ghost use Rattle.uu_routes.specs.Map.{own_links, price, first_cost, first_hop, first_hops};
 ghost use Rattle.uu_routes.specs.Internal.Claims.{AreClaims};
 
-use crate::claims::{Claim, host_for, table_of};
+use crate::claims::{Claim, host_for};
 use crate::link::FirstHop;
 use std::alloc::{AllocError, Global};
 use std::collections::BTreeMap;
@@ -86,16 +86,17 @@ fn push_if(found: &mut Vec<FirstHop>, hop: Option<FirstHop>) -> Result<(), Alloc
 pub(crate) fn first_hops(
     alloc: Global,
     entries: &[Entry],
+    table: &BTreeMap<SiteName, Claim>,
     own: &SiteName,
     systems: &[SiteName],
 ) -> Result<Vec<FirstHop>, AllocError>
+    requires { AreClaims entries.now (get (slice_cmp nat_cmp) table.now) }
     ensures { IfOk result (λ hops. hops.items ≡ first_hops entries.now own.now systems.now) }
 {
-    let table = table_of(alloc, entries)?;
     let links = own_links(entries, own);
     let mut found = Vec::new(alloc);
     for system in systems {
-        let hop = first_hop(entries, &table, links, system)?;
+        let hop = first_hop(entries, table, links, system)?;
         push_if(&mut found, hop)?;
     }
     Ok(found)

@@ -7,7 +7,7 @@ ghost use Rattle.std.specs.BTreeMap.{get};
 ghost use Rattle.uu_routes.specs.Map.{link_if, links_in, map_links};
 ghost use Rattle.uu_routes.specs.Internal.Claims.{AreClaims};
 
-use crate::claims::{Claim, host_for, table_of};
+use crate::claims::{Claim, host_for};
 use crate::link::SiteLink;
 use std::alloc::{AllocError, Global};
 use std::collections::BTreeMap;
@@ -62,15 +62,16 @@ fn add_links(
 pub(crate) fn map_links(
     alloc: Global,
     entries: &[Entry],
+    table: &BTreeMap<SiteName, Claim>,
     own: &SiteName,
 ) -> Result<Vec<SiteLink>, AllocError>
+    requires { AreClaims entries.now (get (slice_cmp nat_cmp) table.now) }
     ensures { IfOk result (λ links. links.items ≡ map_links entries.now own.now) }
 {
-    let table = table_of(alloc, entries)?;
     let mut found = Vec::new(alloc);
     for entry in entries {
         if entry.host != *own {
-            add_links(entries, &table, entry, &mut found)?;
+            add_links(entries, table, entry, &mut found)?;
         }
     }
     Ok(found)

@@ -19,13 +19,14 @@ pub(crate) fn number_of(names: &[SiteName], name: &SiteName) -> usize
     }
 }
 
-// Each name that is mentioned, with repeats.
-fn mentioned(
+// The names of the first hops and of the sites that have links, with few repeats: the links of a site
+// follow each other.
+fn starts(
     alloc: Global,
     first: &[FirstHop],
     links: &[SiteLink],
 ) -> Result<Vec<SiteName>, AllocError>
-    ensures { IfOk result (λ names. names.items ≡ (map hop_to first.now ++ map link_from links.now) ++ map link_to links.now) }
+    ensures { IfOk result (λ names. (name : List ℕ) → Contains names.items name ↔ Contains (map hop_to first.now ++ map link_from links.now) name) }
 {
     let mut names = Vec::new(alloc);
     for hop in first {
@@ -34,9 +35,29 @@ fn mentioned(
     for link in links {
         names.push(link.from.clone()?)?;
     }
-    for other in links {
-        names.push(other.to.clone()?)?;
+    names.dedup();
+    Ok(names)
+}
+
+fn add_ends(names: &mut Vec<SiteName>, links: &[SiteLink]) -> Result<(), AllocError>
+    ensures { IfOk result (λ _. names.new.items ≡ names.old.items ++ map link_to links.now) }
+{
+    for link in links {
+        names.push(link.to.clone()?)?;
     }
+    Ok(())
+}
+
+// Each name that is mentioned, with repeats.
+fn mentioned(
+    alloc: Global,
+    first: &[FirstHop],
+    links: &[SiteLink],
+) -> Result<Vec<SiteName>, AllocError>
+    ensures { IfOk result (λ names. (name : List ℕ) → Contains names.items name ↔ Contains ((map hop_to first.now ++ map link_from links.now) ++ map link_to links.now) name) }
+{
+    let mut names = starts(alloc, first, links)?;
+    add_ends(&mut names, links)?;
     Ok(names)
 }
 

@@ -1,8 +1,9 @@
-// All least ways, round by round.
-ghost use Rattle.std.specs.Prelude.{◌≡◌, ◌||◌, ◌<◌, ◌^◌, ◌+◌, None, Some, Ok, false, IfOk, OnOk, All, length, replicate};
+// All least ways, round by round. A round goes on only from the ways that the one before it found: those
+// that have as many hosts as there were rounds.
+ghost use Rattle.std.specs.Prelude.{◌≡◌, ◌↔◌, ◌<◌, ◌^◌, ◌+◌, None, Some, IfOk, OnOk, IsTrue, All, length, map, replicate};
 ghost use Rattle.uu_routes.specs.Links.{most_hops};
 ghost use Rattle.uu_routes.specs.declared.label.Label.{Label as AnyLabel};
-ghost use Rattle.uu_routes.specs.Internal.Labels.{followed, rounded};
+ghost use Rattle.uu_routes.specs.Internal.Labels.{followed, rounded, way_of};
 ghost use Rattle.uu_routes.specs.Internal.Nets.{IsFitNet, AreFound, AreSound};
 
 use crate::label::{Label, relax, start};
@@ -24,12 +25,16 @@ fn blank(alloc: Global, hosts: usize) -> Result<Vec<Option<Label>>, AllocError>
     Ok(labels)
 }
 
-fn copy_of(alloc: Global, known: &Option<Label>) -> Result<Option<Label>, AllocError>
-    ensures { IfOk result (λ copy. copy ≡ known.now) }
+// The way that is known, if it has this many hosts.
+fn way_of(alloc: Global, hops: usize, known: &Option<Label>) -> Result<Option<Label>, AllocError>
+    ensures { IfOk result (λ way. way ≡ way_of hops known.now) }
 {
     match known {
         None => Ok(None),
         Some(label) => {
+            if label.path.as_slice().len() != hops {
+                return Ok(None);
+            }
             let mut path = Vec::new(alloc);
             path.extend_from_slice(label.path.as_slice())?;
             Ok(Some(Label {
@@ -40,57 +45,59 @@ fn copy_of(alloc: Global, known: &Option<Label>) -> Result<Option<Label>, AllocE
     }
 }
 
-fn copies(alloc: Global, known: &[Option<Label>]) -> Result<Vec<Option<Label>>, AllocError>
-    ensures { IfOk result (λ labels. labels.items ≡ known.now) }
+// The ways that have this many hosts.
+fn ways_of(
+    alloc: Global,
+    hops: usize,
+    known: &[Option<Label>],
+) -> Result<Vec<Option<Label>>, AllocError>
+    ensures { IfOk result (λ ways. ways.items ≡ map (way_of hops) known.now) }
 {
-    let mut labels = Vec::new(alloc);
+    let mut ways = Vec::new(alloc);
     for label in known {
-        labels.push(copy_of(alloc, label)?)?;
+        ways.push(way_of(alloc, hops, label)?)?;
     }
-    Ok(labels)
+    Ok(ways)
 }
 
-// Notes the ways that go on from what is known of a host. Returns whether one was noted.
+fn are_none(ways: &[Option<Label>]) -> bool
+    ensures { IsTrue result ↔ All (λ way. way ≡ None) ways.now }
+{
+    ways.iter().all(|way| way.is_none())
+}
+
+// Notes the ways that go on from what is known of a host.
 fn follow(
     alloc: Global,
     labels: &mut Vec<Option<Label>>,
     label: &Option<Label>,
     edges: &[Edge],
-) -> Result<bool, AllocError>
+) -> Result<(), AllocError>
     requires within { All (λ e. e.to < length labels.old.items) edges.now }
     requires sums { (base : AnyLabel) → label.now ≡ Some base → All (λ e. base.cost + e.cost < 2 ^ 64) edges.now }
-    ensures noted { OnOk result (labels.new.items ≡ followed label.now edges.now labels.old.items) }
-    ensures same { result ≡ Ok false → labels.new.items ≡ labels.old.items }
+    ensures { OnOk result (labels.new.items ≡ followed label.now edges.now labels.old.items) }
 {
     match label {
-        None => Ok(false),
+        None => Ok(()),
         Some(base) => relax(alloc, labels, base, edges),
     }
 }
 
-fn either(one: bool, other: bool) -> bool
-    ensures { result ≡ (one || other) }
-{
-    one || other
-}
-
-// What is known after the links of each host were followed, and whether it is more.
+// Notes the ways that go on from these, one for each host.
 fn round(
     alloc: Global,
     links: &[Outgoing],
-    known: &[Option<Label>],
-) -> Result<(Vec<Option<Label>>, bool), AllocError>
-    requires { AreSound links.now known.now }
-    ensures noted { IfOk result (λ next. next.0.items ≡ rounded links.now known.now known.now) }
-    ensures same { IfOk result (λ next. next.1 ≡ false → next.0.items ≡ known.now) }
+    ways: &[Option<Label>],
+    labels: &mut Vec<Option<Label>>,
+) -> Result<(), AllocError>
+    requires sound { AreSound links.now ways.now }
+    requires size { length labels.old.items ≡ length ways.now }
+    ensures { OnOk result (labels.new.items ≡ rounded links.now ways.now labels.old.items) }
 {
-    let mut labels = copies(alloc, known)?;
-    let mut changed = false;
-    for (at, label) in known.iter().enumerate() {
-        let more = follow(alloc, &mut labels, label, links[at].as_slice())?;
-        changed = either(changed, more);
+    for (at, way) in ways.iter().enumerate() {
+        follow(alloc, labels, way, links[at].as_slice())?;
     }
-    Ok((labels, changed))
+    Ok(())
 }
 
 /// The least way of at most [`MAX_HOPS`] hosts to each host of a net, if there is one.
@@ -101,12 +108,12 @@ pub(crate) fn least_ways(alloc: Global, net: &Net) -> Result<Vec<Option<Label>>,
     let links = net.links.as_slice();
     let mut labels = blank(alloc, links.len())?;
     relax(alloc, &mut labels, &start(alloc), net.first.as_slice())?;
-    for _ in 1..MAX_HOPS {
-        let (next, changed) = round(alloc, links, &labels)?;
-        labels = next;
-        if !changed {
+    for hops in 1..MAX_HOPS {
+        let ways = ways_of(alloc, hops, &labels)?;
+        if are_none(&ways) {
             return Ok(labels);
         }
+        round(alloc, links, &ways, &mut labels)?;
     }
     Ok(labels)
 }

@@ -172,8 +172,8 @@ pub fn site_routes(
     let table = table_of(alloc, entries)?;
     let own = host_for(entries, &table, name);
     let neighbours = neighbours_of(alloc, entries, &table, systems)?;
-    let first = first_hops(alloc, entries, own, systems)?;
-    let links = map_links(alloc, entries, own)?;
+    let first = first_hops(alloc, entries, &table, own, systems)?;
+    let links = map_links(alloc, entries, &table, own)?;
     let all = routes(alloc, &first, &links)?;
     let list = printed(alloc, &neighbours, own, all.as_slice())?;
     Ok(Listed::from_vec(list))

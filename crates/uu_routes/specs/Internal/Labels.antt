@@ -1,5 +1,5 @@
 -- How the code finds ways: by labels, in rounds.
-use Rattle.std.specs.Prelude.{ℕ, ◌+◌, Bool, true, List, [], ◌∷◌, ◌++◌, Option, Some, None, if◌then◌else◌, slice_set, get_or}
+use Rattle.std.specs.Prelude.{ℕ, ◌+◌, ◌==◌, Bool, true, List, [], ◌∷◌, ◌++◌, length, Option, Some, None, if◌then◌else◌, slice_set, get_or}
 use Rattle.std.specs.declared.cmp.Ordering.{Ordering}
 use Rattle.std.specs.Ordering.{nat_cmp, is_lt}
 use Rattle.uu_routes.specs.Way.{way_cmp}
@@ -40,7 +40,12 @@ abbrev pub followed : Option Label → List Edge → List (Option Label) → Lis
 followed None es ls = ls
 followed (Some base) es ls = relaxed base es ls
 
--- the links of all hosts, with what was known of them before
+-- what is known of a host, if that way has so many hosts
+abbrev pub way_of : ℕ → Option Label → Option Label
+way_of hops None = None
+way_of hops (Some l) = if length l.path == hops then Some l else None
+
+-- the links of all hosts, each after a way to it
 abbrev pub rounded : List (List Edge) → List (Option Label) → List (Option Label) → List (Option Label)
 rounded [] known ls = ls
 rounded (es ∷ links) [] ls = ls

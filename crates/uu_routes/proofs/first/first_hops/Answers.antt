@@ -5,7 +5,6 @@ use Rattle.uu_routes.proofs.first.first_hops.Goals as goal
 
 pub loop-system-preserved : goal.loop-system-preserved
 loop-system-preserved c = record {
-  claims = c.loop-system.invariant.claims;
   links = c.loop-system.invariant.links;
   found =
       filter_map_step (first_hop c.args.entries.now c.own_links-links.result.now) c.args.systems.now c.loop-system.system-index c.system-item.result [] c.loop-system.found.items c.push_if.new.found.items c.in_ok-hop.hop

@@ -1,14 +1,8 @@
-use Rattle.std.proofs.Common.{◌≡◌, take, not, nat_cmp}
+use Rattle.std.proofs.Common.{◌≡◌, take, not}
 use Rattle.std.specs.Prelude.{flat_map, filter}
-use Rattle.std.specs.BTreeMap.{get}
-use Rattle.std.specs.Cmp.Lexicographic.{slice_cmp}
 use Rattle.std.specs.Str.{bytes_eq}
 use Rattle.uu_routes.specs.Map.{links_in}
-use Rattle.uu_routes.specs.Internal.Claims.{AreClaims}
 use Rattle.uu_routes.proofs.map.map_links.Given as goal
 
 abbrev pub invariant-loop-entry : goal.invariant-loop-entry
-invariant-loop-entry l = record {
-  claims : AreClaims l.entries (get (slice_cmp nat_cmp) l.table);
-  found : l.found.items ≡ flat_map (links_in l.entries) (filter (λ entry. not (bytes_eq entry.host l.own)) (take l.entry-index l.entries));
-}
+invariant-loop-entry l = l.found.items ≡ flat_map (links_in l.entries) (filter (λ entry. not (bytes_eq entry.host l.own)) (take l.entry-index l.entries))

@@ -1,9 +1,10 @@
-use Rattle.std.proofs.Common.{◌≡◌, ℕ, ◌+◌, ◌-◌, ◌<◌, suc, List, None, Option, length, replicate, sym, ap, ◌∙◌, subst, arith}
+use Rattle.std.proofs.Common.{◌≡◌, ℕ, ◌+◌, ◌-◌, ◌<◌, suc, List, All, None, Option, length, map, replicate, sym, ap, ◌∙◌, subst, arith}
+use Rattle.std.proofs.lemmas.List.{length-map}
 use Rattle.uu_routes.specs.declared.net.Edge.{Edge}
 use Rattle.uu_routes.specs.declared.label.Label.{Label}
-use Rattle.uu_routes.specs.Internal.Labels.{rounded}
+use Rattle.uu_routes.specs.Internal.Labels.{rounded, way_of}
 use Rattle.uu_routes.specs.Internal.Nets.{AreFound, AreSound}
-use Rattle.uu_routes.proofs.Rounds.{are_sound, first_found, next_found, steady}
+use Rattle.uu_routes.proofs.Rounds.{are_sound_ways, first_found, next_found, steady}
 use Rattle.uu_routes.proofs.search.least_ways.Goals as goal
 
 -- how many rounds are left
@@ -13,39 +14,46 @@ steps n = 127 - n
 steps_up : (n : ℕ) → n < 127 → n + steps n ≡ 127
 steps_up n h = omega (arith, h)
 
--- what a round made of the labels before it
-of_round : (links net_links : List (List Edge)) (known before next : List (Option Label)) → links ≡ net_links → known ≡ before → next ≡ rounded links known known → next ≡ rounded net_links before before
-of_round links net_links known before next e f g = g ∙ (ap (λ x. rounded x known known) e ∙ ap (λ x. rounded net_links x x) f)
-
-pub loop-init : goal.loop-init
-loop-init c = record {
-  found = first_found c.args.net.now c.requires c.in_ok-labels.labels.items c.relax.new.labels.items c.start.result c.as_slice.result.now (c.in_ok-labels.ensures ∙ ap (λ (x : List (List Edge)). replicate (length x) None) c.as_slice-links.ensures) c.start.ensures c.as_slice.ensures c.in_ok-relax.ensures.noted;
+pub loop-hops-init : goal.loop-hops-init
+loop-hops-init c = record {
+  found = first_found c.args.net.now c.requires c.in_ok-labels.labels.items c.relax.new.labels.items c.start.result c.as_slice.result.now (c.in_ok-labels.ensures ∙ ap (λ (x : List (List Edge)). replicate (length x) None) c.as_slice-links.ensures) c.start.ensures c.as_slice.ensures c.in_ok-relax.ensures;
   links = c.as_slice-links.ensures;
 }
 
-pub round-requires : goal.round-requires
-round-requires c =
-    let it : AreSound c.args.net.now.links c.loop.labels.items = are_sound c.args.net.now c.requires c.loop.counter c.loop.labels.items (omega (arith, c.loop-test.true)) c.loop.invariant.found in
-    subst (λ (links : List (List Edge)). AreSound links c.deref.result.now) (sym c.loop.invariant.links)
-    (subst (λ (known : List (Option Label)). AreSound c.args.net.now.links known) (sym c.deref.ensures.value) it)
-
-pub returns-then-not-changed : goal.returns-then-not-changed
-returns-then-not-changed c =
+pub returns-then-are_none : goal.returns-then-are_none
+returns-then-are_none c =
     let net = c.args.net.now in
-    let before = c.loop.labels.items in
-    let same : c.in_ok-next.next.items ≡ before = c.in_ok-next.ensures.same c.if-not-changed.true ∙ c.deref.ensures.value in
-    let is : c.in_ok-next.next.items ≡ rounded net.links before before = of_round c.as_slice-links.result.now net.links c.deref.result.now before c.in_ok-next.next.items c.loop.invariant.links c.deref.ensures.value c.in_ok-next.ensures.noted in
-    let kept : before ≡ rounded net.links before before = sym same ∙ is in
-    let steadily : AreFound net 127 before = subst (λ n. AreFound net n before) (let e : c.loop.counter + steps c.loop.counter ≡ 127 = steps_up c.loop.counter c.loop-test.true in e) (steady net c.requires c.loop.counter before (omega (arith, c.loop.auto.counter)) c.loop.invariant.found kept (steps c.loop.counter)) in
-    subst (λ (ls : List (Option Label)). AreFound net 127 ls) (sym same) steadily
+    let hops = c.loop-hops.hops in
+    let before = c.loop-hops.labels.items in
+    let is : c.deref-in-loop-hops.result.now ≡ map (way_of hops) before = c.deref-in-loop-hops.ensures.value ∙ (c.in_ok-ways.ensures ∙ ap (map (way_of hops)) c.deref.ensures.value) in
+    let none : All (λ way. way ≡ None) (map (way_of hops) before) = subst (λ (ways : List (Option Label)). All (λ way. way ≡ None) ways) is (c.are_none.ensures.0 c.if-are_none.true) in
+    subst (λ n. AreFound net n before) (let e : hops + steps hops ≡ 127 = steps_up hops c.loop-hops-test.true in e) (steady net c.requires hops before (omega (arith, c.loop-hops.auto.hops)) c.loop-hops.invariant.found none (steps hops))
 
-pub loop-preserved : goal.loop-preserved
-loop-preserved c = record {
+pub round-requires-clause-sound : goal.round-requires-clause-sound
+round-requires-clause-sound c =
+    let net = c.args.net.now in
+    let hops = c.loop-hops.hops in
+    let before = c.loop-hops.labels.items in
+    let is : c.deref-in-loop-hops-2.result.now ≡ map (way_of hops) before = c.deref-in-loop-hops-2.ensures.value ∙ (c.in_ok-ways.ensures ∙ ap (map (way_of hops)) c.deref.ensures.value) in
+    let it : AreSound net.links c.deref-in-loop-hops-2.result.now = are_sound_ways net c.requires hops before c.deref-in-loop-hops-2.result.now (omega (arith, c.loop-hops-test.true)) c.loop-hops.invariant.found is in
+    subst (λ (links : List (List Edge)). AreSound links c.deref-in-loop-hops-2.result.now) (sym c.loop-hops.invariant.links) it
+
+pub round-requires-clause-size : goal.round-requires-clause-size
+round-requires-clause-size c =
+    let hops = c.loop-hops.hops in
+    let before = c.loop-hops.labels.items in
+    let is : c.deref-in-loop-hops-2.result.now ≡ map (way_of hops) before = c.deref-in-loop-hops-2.ensures.value ∙ (c.in_ok-ways.ensures ∙ ap (map (way_of hops)) c.deref.ensures.value) in
+    sym (ap length is ∙ length-map before (way_of hops))
+
+pub loop-hops-preserved : goal.loop-hops-preserved
+loop-hops-preserved c = record {
   found =
       let net = c.args.net.now in
-      let before = c.loop.labels.items in
-      let is : c.in_ok-next.next.items ≡ rounded net.links before before = of_round c.as_slice-links.result.now net.links c.deref.result.now before c.in_ok-next.next.items c.loop.invariant.links c.deref.ensures.value c.in_ok-next.ensures.noted in
-      let more : AreFound net (suc c.loop.counter) c.in_ok-next.next.items = next_found net c.requires c.loop.counter before c.in_ok-next.next.items (omega (arith, c.loop.auto.counter)) c.loop.invariant.found is in
-      subst (λ n. AreFound net n c.in_ok-next.next.items) (let e : suc c.loop.counter ≡ c.loop.counter + 1 = omega arith in e) more;
-  links = c.loop.invariant.links;
+      let hops = c.loop-hops.hops in
+      let before = c.loop-hops.labels.items in
+      let is : c.deref-in-loop-hops-2.result.now ≡ map (way_of hops) before = c.deref-in-loop-hops-2.ensures.value ∙ (c.in_ok-ways.ensures ∙ ap (map (way_of hops)) c.deref.ensures.value) in
+      let new : c.round.new.labels.items ≡ rounded net.links (map (way_of hops) before) before = c.in_ok-round.ensures ∙ (ap (λ links. rounded links c.deref-in-loop-hops-2.result.now before) c.loop-hops.invariant.links ∙ ap (λ ways. rounded net.links ways before) is) in
+      let more : AreFound net (suc hops) c.round.new.labels.items = next_found net c.requires hops before c.round.new.labels.items (omega (arith, c.loop-hops.auto.hops)) c.loop-hops.invariant.found new in
+      subst (λ n. AreFound net n c.round.new.labels.items) (let e : suc hops ≡ hops + 1 = omega arith in e) more;
+  links = c.loop-hops.invariant.links;
 }
