@@ -25,7 +25,7 @@ ghost use Rattle.uuspool.specs.Served.{IsServed};
 use crate::bundles::{answer, pack};
 use crate::fault::Fault;
 use crate::print::print;
-use crate::routing::routes;
+use crate::routing::{neighbours, routes};
 use sqlite::Alter;
 use std::alloc::{AllocError, Global};
 use std::io::Write;
@@ -33,16 +33,15 @@ use std::mem::drop;
 use uu_core::{
     Filter, JobHead, SystemRow, all_due, definitions, next_calls, next_polls, pick_systems, queues,
 };
-use uu_map::{MapFault, read_entry};
 use uu_names::SiteName;
 use uu_report::{
-    due_report, job_line, jobs_report, links_report, next_calls_report, next_polls_report,
-    queues_report, status_report,
+    due_report, job_line, jobs_report, next_calls_report, next_polls_report, queues_report,
+    status_report,
 };
 use uu_request::Question;
 use uu_settings::Settings;
 use uu_store::laws::runs_are_one_run;
-use uu_store::{Spool, StoreFault, StoreKind};
+use uu_store::{Spool, StoreFault};
 use uu_times::moment::LAST_SECOND;
 use uu_times::{Moment, write_sys};
 
@@ -66,7 +65,7 @@ pub(crate) fn ask<S: Alter, W: Write>(
         Question::Queues(filter) => sum_up(alloc, filter, settings, spool, out),
         Question::Systems => status(alloc, settings, spool, out),
         Question::Definitions(name) => systems(alloc, name.as_ref(), settings, spool, out),
-        Question::Entry(host) => neighbours(alloc, host, settings, spool, out),
+        Question::Entry(name) => neighbours(alloc, name, settings, spool, out),
         Question::Name => name(alloc, settings, spool, out),
         Question::Routes(host, costs) => {
             routes(alloc, host.as_ref(), *costs, settings, spool, out)
@@ -315,29 +314,6 @@ fn systems_text(
 {
     let systems = definitions(alloc, rows, name)?;
     write_sys(alloc, &systems)
-}
-
-// Prints the report of a host's links. A spool keeps only entries that can be read.
-fn neighbours<S: Alter, W: Write>(
-    alloc: Global,
-    host: &SiteName,
-    settings: &Settings,
-    spool: &mut Spool<S>,
-    out: &mut W,
-) -> Result<u8, Fault>
-    ensures { IsServed settings.now (request.Question (question.Entry host.now)) spool.old spool.new (λ output. Appends (W.contents out.old) (W.contents out.new) output) result }
-{
-    match spool.entry(alloc, host) {
-        Ok(Some(text)) => match read_entry(alloc, &text) {
-            Ok(entry) => print(links_report(alloc, &entry), 0, out),
-            Err(fault) => match fault {
-                MapFault::Memory => Err(Fault::Memory),
-                _ => Err(Fault::Store(StoreFault::Store(StoreKind::Database))),
-            },
-        },
-        Ok(None) => print(Vec::from_slice(alloc, b"no entry\n"), 1, out),
-        Err(fault) => Err(Fault::Store(fault)),
-    }
 }
 
 // Prints the site's own name. It only asks the spool for its next number, so that a spool that has

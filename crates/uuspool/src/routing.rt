@@ -1,6 +1,6 @@
-//! The questions about routes by the map.
+//! The questions about the map.
 
-ghost use Rattle.std.specs.Prelude.{◌≡◌, ◌≢◌, [], false, Bool, IfOk, IfErr, IsTrue, MatchResult, Contains, Err, List, Option, ℕ, map, option_copied, filter};
+ghost use Rattle.std.specs.Prelude.{◌≡◌, ◌≢◌, [], false, Bool, IfOk, IfErr, IsTrue, MatchResult, Contains, Err, List, Option, ℕ, find, map, option_copied, filter};
 ghost use Rattle.std.specs.List.{AllZip};
 ghost use Rattle.std.specs.Io.KnownBytes.{Appends};
 ghost use Rattle.sqlite.specs.State.{HasCleanDisk};
@@ -12,6 +12,7 @@ ghost use Rattle.uu_request.specs.declared.request.Question.TheVariants as quest
 ghost use Rattle.uu_request.specs.declared.request.Request.TheVariants as request;
 ghost use Rattle.uu_store.specs.Runs.{Ran, fault_in};
 ghost use Rattle.uu_store.specs.Spool.{IsFaultBetween, Shows, disk, has_failed};
+ghost use Rattle.uuspool.specs.Answers.{IsEntryShown, entry_for, is_of};
 ghost use Rattle.uuspool.specs.Routes.{AreRoutesShown, IsRouteShown, IsRouted, IsRoutingShown, leads_to};
 ghost use Rattle.uuspool.specs.Served.{IsServed};
 
@@ -23,11 +24,74 @@ use std::io::Write;
 use uu_core::SystemRow;
 use uu_map::{Entry, MapFault, read_entry};
 use uu_names::{Listed, SiteName};
-use uu_report::routes_report;
+use uu_report::{links_report, routes_report};
 use uu_routes::{RouteFault, SiteRoute, meant_host, site_routes};
 use uu_settings::Settings;
 use uu_store::laws::runs_are_one_run;
 use uu_store::{Spool, StoreFault, StoreKind};
+
+/// Prints the report of the links of the host that a name means. A spool keeps only entries that can be
+/// read.
+pub(crate) fn neighbours<S: Alter, W: Write>(
+    alloc: Global,
+    name: &SiteName,
+    settings: &Settings,
+    spool: &mut Spool<S>,
+    out: &mut W,
+) -> Result<u8, Fault>
+    ensures { IsServed settings.now (request.Question (question.Entry name.now)) spool.old spool.new (λ output. Appends (W.contents out.old) (W.contents out.new) output) result }
+{
+    let texts = spool.entries(alloc)?;
+    match links_text(alloc, &texts, name) {
+        Ok((text, status)) => print(Ok(text), status, out),
+        Err(fault) => match fault {
+            MapFault::Memory => Err(Fault::Memory),
+            _ => Err(Fault::Store(StoreFault::Store(StoreKind::Database))),
+        },
+    }
+}
+
+// What is printed of the links, and the status.
+fn links_text(
+    alloc: Global,
+    texts: &[Listed<u8>],
+    name: &SiteName,
+) -> Result<(Vec<u8>, u8), MapFault>
+    ensures text { IfOk result (λ text. (entries : List AnyEntry) × AllZip IsEntry texts.now entries × IsEntryShown (entry_for entries name.now) text.0.items text.1) }
+    ensures fault { IfErr result (λ fault. fault ≢ Memory → (text : List ℕ) × Contains texts.now text × (host_of text ≡ Err fault)) }
+{
+    let entries = read_entries(alloc, texts)?;
+    let host = meant_host(alloc, &entries, name)?;
+    entry_shown(alloc, entry_of(&entries, &host))
+}
+
+// The entry of a host.
+fn entry_of<'a>(entries: &'a [Entry], host: &SiteName) -> Option<&'a Entry>
+    ensures { option_copied result ≡ find (is_of host.now) entries.now }
+{
+    for entry in entries {
+        if entry.host == *host {
+            return Some(entry);
+        }
+    }
+    None
+}
+
+// What is printed of an entry, if there is one, and the status.
+fn entry_shown(alloc: Global, entry: Option<&Entry>) -> Result<(Vec<u8>, u8), MapFault>
+    ensures { MatchResult result (λ text. IsEntryShown (option_copied entry.entry) text.0.items text.1) (λ fault. fault ≡ Memory) }
+{
+    match entry {
+        None => {
+            let text = Vec::from_slice(alloc, b"no entry\n")?;
+            Ok((text, 1))
+        }
+        Some(entry) => {
+            let text = links_report(alloc, entry)?;
+            Ok((text, 0))
+        }
+    }
+}
 
 /// Prints the routes by the map, or the one to a host. A spool keeps only entries that can be read.
 pub(crate) fn routes<S: Alter, W: Write>(
