@@ -8,6 +8,7 @@ ask them. Each takes the whole text at once. Time strings are regular expression
 minutes is a set. How far a text begins a time string is found by completing it.
 """
 import heapq
+import itertools
 import re
 
 # Time strings, those of the worked sys file among them, and texts that aren't time strings.
@@ -360,30 +361,45 @@ def meaning(host, statement):
     return [link(part) for part in elements(form["links"] or "")], aliases
 
 
+def network(statement):
+    """The cost of a network and the names of its sites."""
+    form = re.fullmatch(rf"{SITE_NAME}\s*=\s*[!@:%]?{{([^}}]*)}}[!@:%]?\s*(?:\((.*)\))?", statement)
+    if not form:
+        raise Skipped
+    sites = elements(form[1])
+    if statement.startswith(".") or not all(re.fullmatch(SITE_NAME, site) and site[0] != "." for site in sites):
+        raise Skipped
+    return (4000 if form[2] is None else cost(form[2])), sites
+
+
 def facts(text):
-    """What a map entry says, if no name has a mark and a cost has at most one operator: its host, its
-    links as costs and names, its aliases, and the numbers of the lines that are skipped."""
+    """What a map entry says, if no link has a mark and a cost has at most one operator: its host, its
+    links as costs and names, its aliases, its networks as costs and lists of names, and the numbers of
+    the lines that are skipped."""
     named = re.search(r"^#N(?:[ \t]+([^ \t,\n]*).*)?$", text, re.MULTILINE)
     if not named or not named[1]:
         raise Fault("no name")
     if not re.fullmatch(SITE_NAME, named[1]):
         raise Fault("bad host")
-    links, aliases, skipped = [], [], []
+    links, aliases, networks, skipped = [], [], [], []
     for place, statement in statements(text):
         try:
             more_links, more_aliases = meaning(named[1], statement)
         except Skipped:
-            skipped.append(place)
+            try:
+                networks.append(network(statement))
+            except Skipped:
+                skipped.append(place)
         else:
             links += more_links
             aliases += more_aliases
-    return named[1], links, aliases, skipped
+    return named[1], links, aliases, networks, skipped
 
 
 def entry(text):
     """What a map entry says, if no link is named twice, as a text."""
     try:
-        host, links, aliases, skipped = facts(text)
+        host, links, aliases, _, skipped = facts(text)
     except Fault as fault:
         return str(fault)
     shown = [f"{name} {'dead' if price == DEAD else price}/" for price, name in sorted(links)]
@@ -393,20 +409,24 @@ def entry(text):
 
 
 class Routes:
-    """The routes of a site over the entries of a map, of which none has the same host as another. A way
-    is a triple of its cost, its number of sites and their names. The ways are tried from the least one
+    """The routes of a site over the entries of a map, of which none has the same host as another. A
+    network is here the list of all its links. A way is a triple of its cost, its number of sites and their names. The ways are tried from the least one
     on, so the first that comes to a host is its route. A later one that comes there with fewer sites may
     still be the front of a route, because a route has at most 127 sites."""
 
     def __init__(self, texts, own, systems):
         self.entries, self.claims = [facts(text) for text in texts], {}
-        for host, _, aliases, _ in self.entries:
+        for host, _, aliases, _, _ in self.entries:
             for name in {host, *aliases}:
                 self.claims.setdefault(name, []).append(host)
         self.own, self.systems = self.host(own), sorted(systems)
         links = {}
-        for host, listed, _, _ in self.entries:
+        for host, listed, _, _, _ in self.entries:
             links[host] = [(price, self.host(name)) for price, name in listed if price != DEAD]
+        self.networks = [(price, {self.host(name) for name in sites}) for _, _, _, networks, _ in self.entries for price, sites in networks if price != DEAD]
+        for price, hosts in self.networks:
+            for host, other in itertools.permutations(hosts, 2):
+                links.setdefault(host, []).append((price, other))
         ways = [(price, 1, (host,)) for price, host in self.first_hops()]
         heapq.heapify(ways)
         self.found, fewest = {}, {}
@@ -429,13 +449,13 @@ class Routes:
 
     def first_hops(self):
         """The systems' hosts, and what a call to each costs."""
-        listed = [its for host, its, _, _ in self.entries if host == self.own]
+        listed = [its for host, its, _, _, _ in self.entries if host == self.own]
         for host in {self.host(system) for system in self.systems}:
             prices = [price for price, name in (listed[0] if listed else ()) if self.host(name) == host]
-            if not prices:
-                yield 4000, host
-            elif min(prices) != DEAD:
-                yield min(prices), host
+            shared = [price for price, hosts in self.networks if {self.own, host} <= hosts]
+            least = min(prices or shared or [4000])
+            if least != DEAD:
+                yield least, host
 
     def lines(self):
         """The lines of all routes with their costs."""

@@ -25,15 +25,15 @@ In (y ∷ ys) x = (y ≡ x) ⊎ In ys x
 
 -- ---- one host
 
-record Better (w : Label) (o p : Option Label) : Type 0 where
-  from : (l : Label) → p ≡ Some l → (o ≡ Some l) ⊎ (l ≡ w)
-  lower : (m : Label) → Reaches o m → Reaches p m
-  met : Reaches p w
+pub record Better (w : Label) (o p : Option Label) : Type 0 where
+  pub from : (l : Label) → p ≡ Some l → (o ≡ Some l) ⊎ (l ≡ w)
+  pub lower : (m : Label) → Reaches o m → Reaches p m
+  pub met : Reaches p w
 
-some_same : {X : Type 0} → (x y : X) → Some x ≡ Some y → x ≡ y
+pub some_same : {X : Type 0} → (x y : X) → Some x ≡ Some y → x ≡ y
 some_same x y e = cc
 
-better_by : (w : Label) (o : Option Label) → Better w o (improved w o)
+pub better_by : (w : Label) (o : Option Label) → Better w o (improved w o)
 better_by w None = record {
   from = λ l e. inr (sym (some_same w l e));
   lower = λ m h. absurd h;

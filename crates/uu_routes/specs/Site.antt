@@ -9,7 +9,7 @@ use Rattle.uu_routes.specs.declared.link.Destination.{Destination}
 use Rattle.uu_routes.specs.declared.link.Route.{Route}
 use Rattle.uu_routes.specs.declared.site.Neighbour.{Neighbour}
 use Rattle.uu_routes.specs.declared.site.SiteRoute.{SiteRoute}
-use Rattle.uu_routes.specs.Map.{first_hops, host_for, map_links}
+use Rattle.uu_routes.specs.Map.{first_hops, host_for, map_links, map_networks}
 use Rattle.uu_routes.specs.Routes.{AreRoutes, IsAnswer}
 
 -- a system with the host that its name means
@@ -40,7 +40,7 @@ site_route ns own d = if bytes_eq d.site own then None else route_to ns d.site d
 abbrev pub AreSiteRoutes : List Entry → List ℕ → List (List ℕ) → List SiteRoute → Type 0
 AreSiteRoutes entries name systems list =
     (all : List Destination)
-    × AreRoutes (first_hops entries (host_for entries name) systems) (map_links entries (host_for entries name)) all
+    × AreRoutes (first_hops entries (host_for entries name) systems) (map_links entries (host_for entries name)) (map_networks entries (host_for entries name)) all
     × (list ≡ filter_map (site_route (map (neighbour entries) systems) (host_for entries name)) all)
 
 -- The routes; a fault if a limit is exceeded; or out of memory.
@@ -48,4 +48,4 @@ abbrev pub IsSiteAnswer : List Entry → List ℕ → List (List ℕ) → Result
 IsSiteAnswer entries name systems (Ok list) = AreSiteRoutes entries name systems list
 IsSiteAnswer entries name systems (Err fault) =
     let answer : Result (List Destination) RouteFault = Err fault in
-    IsAnswer (first_hops entries (host_for entries name) systems) (map_links entries (host_for entries name)) answer
+    IsAnswer (first_hops entries (host_for entries name) systems) (map_links entries (host_for entries name)) (map_networks entries (host_for entries name)) answer

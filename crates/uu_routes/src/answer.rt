@@ -7,9 +7,9 @@ ghost use Rattle.uu_routes.specs.Internal.Tables.{net_of};
 
 use crate::destinations::destinations;
 use crate::fault::RouteFault;
-use crate::link::{Destination, FirstHop, SiteLink};
+use crate::link::{Destination, FirstHop, SiteLink, SiteNetwork};
 use crate::names::names_of;
-use crate::net::{Net, first_edges, out_edges};
+use crate::net::{Net, first_edges, network_edges, out_edges};
 use crate::search::least_ways;
 use std::alloc::{AllocError, Global};
 use uu_names::{Listed, SiteName};
@@ -29,20 +29,29 @@ fn are_links_cheap(links: &[SiteLink]) -> bool
     links.iter().all(|link| link.cost <= MAX_COST)
 }
 
+fn are_networks_cheap(networks: &[SiteNetwork]) -> bool
+    ensures { IsTrue result ↔ All (λ n. n.cost ≤ most_cost) networks.now }
+{
+    networks.iter().all(|network| network.cost <= MAX_COST)
+}
+
 fn net_of(
     alloc: Global,
     names: &[SiteName],
     first: &[FirstHop],
     links: &[SiteLink],
+    networks: &[SiteNetwork],
 ) -> Result<Net, AllocError>
     requires { IsStrictlySortedBy name_cmp names.now }
-    ensures { IfOk result (λ net. net ≡ net_of names.now first.now links.now) }
+    ensures { IfOk result (λ net. net ≡ net_of names.now first.now links.now networks.now) }
 {
     let edges = first_edges(alloc, names, first)?;
     let table = out_edges(alloc, names, links)?;
+    let joined = network_edges(alloc, names, networks)?;
     Ok(Net {
         first: Listed::from_vec(edges),
         links: Listed::from_vec(table),
+        networks: Listed::from_vec(joined),
     })
 }
 
@@ -52,31 +61,33 @@ fn all_routes(
     names: &[SiteName],
     first: &[FirstHop],
     links: &[SiteLink],
+    networks: &[SiteNetwork],
 ) -> Result<Vec<Destination>, AllocError>
     requires order { IsStrictlySortedBy name_cmp names.now }
-    requires same { (name : List ℕ) → Contains names.now name ↔ Contains (mentioned first.now links.now) name }
-    requires cheap { AreCheap first.now links.now }
-    ensures { IfOk result (λ v. AreRoutes first.now links.now v.items) }
+    requires same { (name : List ℕ) → Contains names.now name ↔ Contains (mentioned first.now links.now networks.now) name }
+    requires cheap { AreCheap first.now links.now networks.now }
+    ensures { IfOk result (λ v. AreRoutes first.now links.now networks.now v.items) }
 {
-    let net = net_of(alloc, names, first, links)?;
+    let net = net_of(alloc, names, first, links, networks)?;
     let labels = least_ways(alloc, &net)?;
     destinations(alloc, names, &labels)
 }
 
-/// The least route to each site that a first hop or a link names, in order of their names.
+/// The least route to each site that a first hop, a link or a network names, in order of their names.
 /// A route has at most [`MAX_HOPS`](crate::MAX_HOPS) sites. Any cost above [`MAX_COST`] is
 /// [`RouteFault::TooCostly`].
 pub(crate) fn routes(
     alloc: Global,
     first: &[FirstHop],
     links: &[SiteLink],
+    networks: &[SiteNetwork],
 ) -> Result<Listed<Destination>, RouteFault>
-    ensures { IsAnswer first.now links.now result }
+    ensures { IsAnswer first.now links.now networks.now result }
 {
-    if !(are_hops_cheap(first) && are_links_cheap(links)) {
+    if !(are_hops_cheap(first) && are_links_cheap(links) && are_networks_cheap(networks)) {
         return Err(RouteFault::TooCostly);
     }
-    let names = names_of(alloc, first, links)?;
-    let list = all_routes(alloc, &names, first, links)?;
+    let names = names_of(alloc, first, links, networks)?;
+    let list = all_routes(alloc, &names, first, links, networks)?;
     Ok(Listed::from_vec(list))
 }

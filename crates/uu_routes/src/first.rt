@@ -4,17 +4,18 @@ ghost use Rattle.std.specs.Option.{option_to_list};
 ghost use Rattle.std.specs.Ordering.{nat_cmp};
 ghost use Rattle.std.specs.Cmp.Lexicographic.{slice_cmp};
 ghost use Rattle.std.specs.BTreeMap.{get};
-ghost use Rattle.uu_routes.specs.Map.{own_links, price, first_cost, first_hop, first_hops};
+ghost use Rattle.uu_routes.specs.Map.{own_links, price, first_cost, first_hop, first_hops, all_networks};
 ghost use Rattle.uu_routes.specs.Internal.Claims.{AreClaims};
 
 use crate::claims::{Claim, host_for};
-use crate::link::FirstHop;
+use crate::link::{FirstHop, SiteNetwork};
+use crate::network::shared_cost;
 use std::alloc::{AllocError, Global};
 use std::collections::BTreeMap;
 use uu_map::{Cost, Entry, Link};
 use uu_names::SiteName;
 
-/// What a first hop costs, if the site's own entry has no link to it.
+/// What a first hop costs, if neither the site's own entry nor a network has a link to it.
 pub const USUAL_COST: u64 = 4000;
 
 fn own_links<'a>(entries: &'a [Entry], own: &SiteName) -> &'a [Link]
@@ -28,7 +29,8 @@ fn own_links<'a>(entries: &'a [Entry], own: &SiteName) -> &'a [Link]
     &[]
 }
 
-fn price(cost: Cost) -> Option<u64>
+/// What a link of this cost costs, if it isn't dead.
+pub(crate) fn price(cost: Cost) -> Option<u64>
     ensures { result ≡ price cost }
 {
     match cost {
@@ -40,31 +42,37 @@ fn price(cost: Cost) -> Option<u64>
 fn first_cost(
     entries: &[Entry],
     table: &BTreeMap<SiteName, Claim>,
+    networks: &[SiteNetwork],
+    own: &SiteName,
     host: &SiteName,
     links: &[Link],
 ) -> Option<u64>
-    requires { AreClaims entries.now (get (slice_cmp nat_cmp) table.now) }
-    ensures { result ≡ first_cost entries.now host.now links.now }
+    requires table { AreClaims entries.now (get (slice_cmp nat_cmp) table.now) }
+    requires networks { networks.now ≡ all_networks entries.now }
+    ensures { result ≡ first_cost entries.now own.now host.now links.now }
 {
     for link in links {
         if *host_for(entries, table, &link.to) == *host {
             return price(link.cost);
         }
     }
-    Some(USUAL_COST)
+    Some(shared_cost(networks, own, host).unwrap_or(USUAL_COST))
 }
 
 fn first_hop(
     entries: &[Entry],
     table: &BTreeMap<SiteName, Claim>,
+    networks: &[SiteNetwork],
+    own: &SiteName,
     links: &[Link],
     system: &SiteName,
 ) -> Result<Option<FirstHop>, AllocError>
-    requires { AreClaims entries.now (get (slice_cmp nat_cmp) table.now) }
-    ensures { IfOk result (λ hop. hop ≡ first_hop entries.now links.now system.now) }
+    requires table { AreClaims entries.now (get (slice_cmp nat_cmp) table.now) }
+    requires networks { networks.now ≡ all_networks entries.now }
+    ensures { IfOk result (λ hop. hop ≡ first_hop entries.now own.now links.now system.now) }
 {
     let host = host_for(entries, table, system);
-    match first_cost(entries, table, host, links) {
+    match first_cost(entries, table, networks, own, host, links) {
         None => Ok(None),
         Some(cost) => {
             let to = host.clone()?;
@@ -87,16 +95,18 @@ pub(crate) fn first_hops(
     alloc: Global,
     entries: &[Entry],
     table: &BTreeMap<SiteName, Claim>,
+    networks: &[SiteNetwork],
     own: &SiteName,
     systems: &[SiteName],
 ) -> Result<Vec<FirstHop>, AllocError>
-    requires { AreClaims entries.now (get (slice_cmp nat_cmp) table.now) }
+    requires table { AreClaims entries.now (get (slice_cmp nat_cmp) table.now) }
+    requires networks { networks.now ≡ all_networks entries.now }
     ensures { IfOk result (λ hops. hops.items ≡ first_hops entries.now own.now systems.now) }
 {
     let links = own_links(entries, own);
     let mut found = Vec::new(alloc);
     for system in systems {
-        let hop = first_hop(entries, table, links, system)?;
+        let hop = first_hop(entries, table, networks, own, links, system)?;
         push_if(&mut found, hop)?;
     }
     Ok(found)

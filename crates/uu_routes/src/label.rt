@@ -51,6 +51,20 @@ fn is_path_below(path: &[usize], to: usize, other: &[usize]) -> bool
     path.cmp(front).then(to.cmp(&last[0])).is_lt()
 }
 
+/// Whether a way comes before another.
+#[tactic(auto, unfolding(crate::specs::Internal::Labels::is_below))]
+pub(crate) fn precedes(way: &Label, other: &Label) -> bool
+    ensures { result ≡ is_below way.now other.now }
+{
+    let path = way.path.as_slice();
+    let other_path = other.path.as_slice();
+    way.cost
+        .cmp(&other.cost)
+        .then(path.len().cmp(&other_path.len()))
+        .then(path.cmp(other_path))
+        .is_lt()
+}
+
 // Whether a way, and then a link, comes before another way.
 fn is_below(base: &Label, edge: &Edge, other: &Label) -> bool
     requires { base.now.cost + edge.now.cost < 2 ^ 64 }

@@ -11,12 +11,13 @@ mod link;
 mod map;
 mod names;
 mod net;
+mod network;
 mod search;
 mod site;
 
 pub use answer::MAX_COST;
 pub use fault::RouteFault;
 pub use first::USUAL_COST;
-pub use link::{Destination, FirstHop, Route, SiteLink};
+pub use link::{Destination, FirstHop, Route, SiteLink, SiteNetwork};
 pub use search::MAX_HOPS;
 pub use site::{SiteRoute, meant_host, site_routes};

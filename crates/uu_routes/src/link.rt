@@ -21,6 +21,15 @@ pub struct SiteLink {
     pub cost: u64,
 }
 
+/// Sites of which each has a link to each other one.
+#[derive(Debug, Drop)]
+pub struct SiteNetwork {
+    /// The sites, with repeats.
+    pub sites: Listed<SiteName>,
+    /// What each of these links costs.
+    pub cost: u64,
+}
+
 /// A way to a site.
 #[derive(Debug, Drop)]
 pub struct Route {

@@ -1,10 +1,10 @@
 // Names and their numbers.
-ghost use Rattle.std.specs.Prelude.{◌≡◌, ◌↔◌, ◌++◌, ℕ, List, IfOk, Contains, IsPermutation, IsSorted, map};
+ghost use Rattle.std.specs.Prelude.{◌≡◌, ◌↔◌, ◌++◌, ℕ, List, IfOk, Contains, IsPermutation, IsSorted, map, flat_map};
 ghost use Rattle.std.specs.List.Sorted.{IsStrictlySortedBy};
 ghost use Rattle.uu_routes.specs.Links.{name_cmp};
-ghost use Rattle.uu_routes.specs.Internal.Numbers.{number_of, hop_to, link_from, link_to};
+ghost use Rattle.uu_routes.specs.Internal.Numbers.{number_of, hop_to, link_from, link_to, network_sites};
 
-use crate::link::{FirstHop, SiteLink};
+use crate::link::{FirstHop, SiteLink, SiteNetwork};
 use std::alloc::{AllocError, Global};
 use uu_names::SiteName;
 
@@ -48,16 +48,37 @@ fn add_ends(names: &mut Vec<SiteName>, links: &[SiteLink]) -> Result<(), AllocEr
     Ok(())
 }
 
+/// Adds names at the end.
+pub(crate) fn append(names: &mut Vec<SiteName>, sites: &[SiteName]) -> Result<(), AllocError>
+    ensures { IfOk result (λ _. names.new.items ≡ names.old.items ++ sites.now) }
+{
+    for site in sites {
+        names.push(site.clone()?)?;
+    }
+    Ok(())
+}
+
+fn add_networks(names: &mut Vec<SiteName>, networks: &[SiteNetwork]) -> Result<(), AllocError>
+    ensures { IfOk result (λ _. names.new.items ≡ names.old.items ++ flat_map network_sites networks.now) }
+{
+    for network in networks {
+        append(names, network.sites.as_slice())?;
+    }
+    Ok(())
+}
+
 // Each name that is mentioned, with repeats.
 fn mentioned(
     alloc: Global,
     first: &[FirstHop],
     links: &[SiteLink],
+    networks: &[SiteNetwork],
 ) -> Result<Vec<SiteName>, AllocError>
-    ensures { IfOk result (λ names. (name : List ℕ) → Contains names.items name ↔ Contains ((map hop_to first.now ++ map link_from links.now) ++ map link_to links.now) name) }
+    ensures { IfOk result (λ names. (name : List ℕ) → Contains names.items name ↔ Contains (((map hop_to first.now ++ map link_from links.now) ++ map link_to links.now) ++ flat_map network_sites networks.now) name) }
 {
     let mut names = starts(alloc, first, links)?;
     add_ends(&mut names, links)?;
+    add_networks(&mut names, networks)?;
     Ok(names)
 }
 
@@ -74,11 +95,12 @@ pub(crate) fn names_of(
     alloc: Global,
     first: &[FirstHop],
     links: &[SiteLink],
+    networks: &[SiteNetwork],
 ) -> Result<Vec<SiteName>, AllocError>
-    ensures same { IfOk result (λ v. (name : List ℕ) → Contains v.items name ↔ Contains ((map hop_to first.now ++ map link_from links.now) ++ map link_to links.now) name) }
+    ensures same { IfOk result (λ v. (name : List ℕ) → Contains v.items name ↔ Contains (((map hop_to first.now ++ map link_from links.now) ++ map link_to links.now) ++ flat_map network_sites networks.now) name) }
     ensures order { IfOk result (λ v. IsStrictlySortedBy name_cmp v.items) }
 {
-    let mut names = sorted(mentioned(alloc, first, links)?)?;
+    let mut names = sorted(mentioned(alloc, first, links, networks)?)?;
     names.dedup();
     Ok(names)
 }

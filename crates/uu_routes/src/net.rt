@@ -2,9 +2,9 @@
 ghost use Rattle.std.specs.Prelude.{◌≡◌, ◌++◌, ◌∷◌, [], IfOk, map, replicate, length, slice_set, get_or};
 ghost use Rattle.std.specs.List.Sorted.{IsStrictlySortedBy};
 ghost use Rattle.uu_routes.specs.Links.{name_cmp};
-ghost use Rattle.uu_routes.specs.Internal.Tables.{hop_edge, linked, added};
+ghost use Rattle.uu_routes.specs.Internal.Tables.{hop_edge, linked, added, network_edges};
 
-use crate::link::{FirstHop, SiteLink};
+use crate::link::{FirstHop, SiteLink, SiteNetwork};
 use crate::names::number_of;
 use std::alloc::{AllocError, Global};
 use std::marker::Model;
@@ -64,6 +64,8 @@ pub(crate) struct Net {
     pub(crate) first: Listed<Edge>,
     /// The links of each host, by its number.
     pub(crate) links: Listed<Outgoing>,
+    /// The links that each host of a network has, also to itself.
+    pub(crate) networks: Listed<Outgoing>,
 }
 
 /// The first hops by number.
@@ -121,6 +123,40 @@ pub(crate) fn out_edges(
             cost: link.cost,
         };
         add(&mut table, from, edge)?;
+    }
+    Ok(table)
+}
+
+fn edges_of(
+    alloc: Global,
+    names: &[SiteName],
+    network: &SiteNetwork,
+) -> Result<Outgoing, AllocError>
+    requires { IsStrictlySortedBy name_cmp names.now }
+    ensures { IfOk result (λ edges. edges ≡ network_edges names.now network.now) }
+{
+    let mut edges = Outgoing::new(alloc);
+    for site in network.sites.as_slice() {
+        edges.push(Edge {
+            to: number_of(names, site),
+            cost: network.cost,
+        })?;
+    }
+    Ok(edges)
+}
+
+/// The links of each network by number.
+pub(crate) fn network_edges(
+    alloc: Global,
+    names: &[SiteName],
+    networks: &[SiteNetwork],
+) -> Result<Vec<Outgoing>, AllocError>
+    requires { IsStrictlySortedBy name_cmp names.now }
+    ensures { IfOk result (λ v. v.items ≡ map (network_edges names.now) networks.now) }
+{
+    let mut table = Vec::new(alloc);
+    for network in networks {
+        table.push(edges_of(alloc, names, network)?)?;
     }
     Ok(table)
 }

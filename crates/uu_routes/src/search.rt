@@ -1,12 +1,12 @@
 // All least ways, round by round. A round goes on only from the ways that the one before it found: those
 // that have as many hosts as there were rounds.
-ghost use Rattle.std.specs.Prelude.{◌≡◌, ◌↔◌, ◌<◌, ◌^◌, ◌+◌, None, Some, IfOk, OnOk, IsTrue, All, length, map, replicate};
+ghost use Rattle.std.specs.Prelude.{◌≡◌, ◌↔◌, ◌<◌, ◌^◌, ◌+◌, None, Some, IfOk, OnOk, IsTrue, All, length, map, option_copied, replicate};
 ghost use Rattle.uu_routes.specs.Links.{most_hops};
 ghost use Rattle.uu_routes.specs.declared.label.Label.{Label as AnyLabel};
-ghost use Rattle.uu_routes.specs.Internal.Labels.{followed, rounded, way_of};
-ghost use Rattle.uu_routes.specs.Internal.Nets.{IsFitNet, AreFound, AreSound};
+ghost use Rattle.uu_routes.specs.Internal.Labels.{followed, joined, least_among, lesser, rounded, way_of};
+ghost use Rattle.uu_routes.specs.Internal.Nets.{IsFitNet, AreFound, AreSound, AreSoundNetworks};
 
-use crate::label::{Label, relax, start};
+use crate::label::{Label, precedes, relax, start};
 use crate::net::{Edge, Net, Outgoing};
 use std::alloc::{AllocError, Global};
 use uu_names::Listed;
@@ -70,12 +70,12 @@ fn are_none(ways: &[Option<Label>]) -> bool
 fn follow(
     alloc: Global,
     labels: &mut Vec<Option<Label>>,
-    label: &Option<Label>,
+    label: Option<&Label>,
     edges: &[Edge],
 ) -> Result<(), AllocError>
     requires within { All (λ e. e.to < length labels.old.items) edges.now }
-    requires sums { (base : AnyLabel) → label.now ≡ Some base → All (λ e. base.cost + e.cost < 2 ^ 64) edges.now }
-    ensures { OnOk result (labels.new.items ≡ followed label.now edges.now labels.old.items) }
+    requires sums { (base : AnyLabel) → option_copied label ≡ Some base → All (λ e. base.cost + e.cost < 2 ^ 64) edges.now }
+    ensures { OnOk result (labels.new.items ≡ followed (option_copied label.entry) edges.now labels.old.items) }
 {
     match label {
         None => Ok(()),
@@ -95,7 +95,57 @@ fn round(
     ensures { OnOk result (labels.new.items ≡ rounded links.now ways.now labels.old.items) }
 {
     for (at, way) in ways.iter().enumerate() {
-        follow(alloc, labels, way, links[at].as_slice())?;
+        follow(alloc, labels, way.as_ref(), links[at].as_slice())?;
+    }
+    Ok(())
+}
+
+// The one that comes first, if it is known.
+fn lesser<'a>(way: &'a Option<Label>, least: Option<&'a Label>) -> Option<&'a Label>
+    ensures { option_copied result ≡ lesser way.now (option_copied least.entry) }
+{
+    let Some(way) = way else {
+        return least;
+    };
+    match least {
+        None => Some(way),
+        Some(known) => {
+            if precedes(way, known) {
+                Some(way)
+            } else {
+                Some(known)
+            }
+        }
+    }
+}
+
+// The least of these ways to the hosts of a network.
+fn least_among<'a>(ways: &'a [Option<Label>], edges: &[Edge]) -> Option<&'a Label>
+    requires { All (λ e. e.to < length ways.now) edges.now }
+    ensures { option_copied result ≡ least_among ways.now edges.now None }
+{
+    let mut least = None;
+    for edge in edges {
+        least = lesser(&ways[edge.to], least);
+    }
+    least
+}
+
+// Notes the ways that go on by each network from the least of these ways to its hosts. From the others
+// they are no less.
+fn join(
+    alloc: Global,
+    networks: &[Outgoing],
+    ways: &[Option<Label>],
+    labels: &mut Vec<Option<Label>>,
+) -> Result<(), AllocError>
+    requires sound { AreSoundNetworks networks.now ways.now }
+    requires size { length labels.old.items ≡ length ways.now }
+    ensures { OnOk result (labels.new.items ≡ joined networks.now ways.now labels.old.items) }
+{
+    for network in networks {
+        let edges = network.as_slice();
+        follow(alloc, labels, least_among(ways, edges), edges)?;
     }
     Ok(())
 }
@@ -114,6 +164,7 @@ pub(crate) fn least_ways(alloc: Global, net: &Net) -> Result<Vec<Option<Label>>,
             return Ok(labels);
         }
         round(alloc, links, &ways, &mut labels)?;
+        join(alloc, net.networks.as_slice(), &ways, &mut labels)?;
     }
     Ok(labels)
 }

@@ -15,6 +15,8 @@ use crate::fault::RouteFault;
 use crate::first::first_hops;
 use crate::link::{Destination, Route};
 use crate::map::map_links;
+use crate::names::append;
+use crate::network::{all_networks, map_networks};
 use std::alloc::{AllocError, Global};
 use std::collections::BTreeMap;
 use uu_map::Entry;
@@ -80,15 +82,6 @@ fn by_system(
         append(&mut names, rest)?;
     }
     Ok(names)
-}
-
-fn append(names: &mut Vec<SiteName>, sites: &[SiteName]) -> Result<(), AllocError>
-    ensures { IfOk result (λ _. names.new.items ≡ names.old.items ++ sites.now) }
-{
-    for site in sites {
-        names.push(site.clone()?)?;
-    }
-    Ok(())
 }
 
 fn route_to(
@@ -172,9 +165,11 @@ pub fn site_routes(
     let table = table_of(alloc, entries)?;
     let own = host_for(entries, &table, name);
     let neighbours = neighbours_of(alloc, entries, &table, systems)?;
-    let first = first_hops(alloc, entries, &table, own, systems)?;
+    let networks = all_networks(alloc, entries, &table)?;
+    let first = first_hops(alloc, entries, &table, &networks, own, systems)?;
     let links = map_links(alloc, entries, &table, own)?;
-    let all = routes(alloc, &first, &links)?;
+    let others = map_networks(alloc, &networks, own)?;
+    let all = routes(alloc, &first, &links, &others)?;
     let list = printed(alloc, &neighbours, own, all.as_slice())?;
     Ok(Listed::from_vec(list))
 }

@@ -50,3 +50,18 @@ abbrev pub rounded : List (List Edge) → List (Option Label) → List (Option L
 rounded [] known ls = ls
 rounded (es ∷ links) [] ls = ls
 rounded (es ∷ links) (o ∷ known) ls = rounded links known (followed o es ls)
+
+-- the one that comes first, if it is known
+abbrev pub lesser : Option Label → Option Label → Option Label
+lesser None least = least
+lesser (Some l) least = improved l least
+
+-- the least of these ways to the hosts of a network
+abbrev pub least_among : List (Option Label) → List Edge → Option Label → Option Label
+least_among ways [] least = least
+least_among ways (e ∷ es) least = least_among ways es (lesser (label_at ways e.to) least)
+
+-- the links of all networks, each after the least of these ways to its hosts
+abbrev pub joined : List (List Edge) → List (Option Label) → List (Option Label) → List (Option Label)
+joined [] ways ls = ls
+joined (es ∷ networks) ways ls = joined networks ways (followed (least_among ways es None) es ls)

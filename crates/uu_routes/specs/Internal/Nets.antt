@@ -1,5 +1,5 @@
 -- Ways over a net of numbered hosts.
-use Rattle.std.specs.Prelude.{◌≡◌, ℕ, ◌+◌, ◌^◌, ◌≤◌, ◌<◌, List, [], ◌∷◌, length, reverse, get_or, Option, Some, None, All, Contains, false}
+use Rattle.std.specs.Prelude.{◌≡◌, ℕ, ◌+◌, ◌^◌, ◌≤◌, ◌<◌, ◌⊎◌, map, List, [], ◌∷◌, length, reverse, get_or, Option, Some, None, All, Contains, false}
 use Rattle.std.specs.Ordering.{is_gt}
 use Rattle.uu_routes.specs.declared.net.Edge.{Edge}
 use Rattle.uu_routes.specs.declared.net.Net.{Net}
@@ -8,13 +8,20 @@ use Rattle.uu_routes.specs.Internal.Labels.{label_cmp, label_at}
 pub use Rattle.uu_routes.specs.Routes.{most_cost}
 use Rattle.uu_routes.specs.Way.{IsWay}
 
--- the links with which one goes on from a way, which is listed from its last host back
-abbrev pub edges_after : Net → List ℕ → List Edge
-edges_after net [] = net.first
-edges_after net (u ∷ us) = get_or net.links u []
+abbrev pub edge_to : Edge → ℕ
+edge_to e = e.to
+
+-- a network that has the host has this link
+abbrev pub Joins : List (List Edge) → ℕ → Edge → Type 0
+Joins networks u e = (es : List Edge) × (Contains networks es × (Contains (map edge_to es) u × Contains es e))
+
+-- from a way, which is listed from its last host back, one goes on by this link
+abbrev pub Follows : Net → List ℕ → Edge → Type 0
+Follows net [] e = Contains net.first e
+Follows net (u ∷ us) e = Contains (get_or net.links u []) e ⊎ Joins net.networks u e
 
 abbrev pub Goes : Net → List ℕ → ℕ → ℕ → Type 0
-Goes net us v d = Contains (edges_after net us) (record { to = v; cost = d })
+Goes net us v d = Follows net us (record { to = v; cost = d })
 
 -- this is a way of at most so many hosts to the host, with its cost
 abbrev pub IsWayTo : Net → ℕ → ℕ → Label → Type 0
@@ -43,11 +50,17 @@ pub record IsFit (hosts : ℕ) (e : Edge) : Type 0 where
 pub record IsFitNet (net : Net) : Type 0 where
   pub first : All (IsFit (length net.links)) net.first
   pub links : All (λ edges. All (IsFit (length net.links)) edges) net.links
+  pub networks : All (λ edges. All (IsFit (length net.links)) edges) net.networks
 
 -- each host has its least way of at most so many hosts
 pub record AreFound (net : Net) (most : ℕ) (ls : List (Option Label)) : Type 0 where
   pub size : length ls ≡ length net.links
   pub each : (i : ℕ) → IsFound net most i (label_at ls i)
+
+-- the links of networks lead to hosts, and a link after what is known costs less than 2^64
+pub record AreSoundNetworks (networks : List (List Edge)) (known : List (Option Label)) : Type 0 where
+  pub within : All (λ es. All (λ e. e.to < length known) es) networks
+  pub sums : (u : ℕ) (base : Label) → label_at known u ≡ Some base → All (λ es. All (λ e. base.cost + e.cost < 2 ^ 64) es) networks
 
 -- the links of each host lead to hosts, and a link after what is known costs less than 2^64
 pub record AreSound (links : List (List Edge)) (known : List (Option Label)) : Type 0 where

@@ -3,6 +3,7 @@ use Rattle.std.specs.Prelude.{ℕ, suc, List, [], ◌∷◌, if◌then◌else◌
 use Rattle.std.specs.Str.{bytes_eq}
 use Rattle.uu_routes.specs.declared.link.FirstHop.{FirstHop}
 use Rattle.uu_routes.specs.declared.link.SiteLink.{SiteLink}
+use Rattle.uu_routes.specs.declared.link.SiteNetwork.{SiteNetwork}
 
 -- the place of a name, or the length of the list
 abbrev pub number_of : List (List ℕ) → List ℕ → ℕ
@@ -17,3 +18,6 @@ link_from l = l.from
 
 abbrev pub link_to : SiteLink → List ℕ
 link_to l = l.to
+
+abbrev pub network_sites : SiteNetwork → List (List ℕ)
+network_sites n = n.sites

@@ -2,6 +2,7 @@
 use Rattle.std.specs.Prelude.{ℕ, List, [], ◌∷◌, ◌++◌, slice_set, get_or, map, replicate, length}
 use Rattle.uu_routes.specs.declared.link.FirstHop.{FirstHop}
 use Rattle.uu_routes.specs.declared.link.SiteLink.{SiteLink}
+use Rattle.uu_routes.specs.declared.link.SiteNetwork.{SiteNetwork}
 use Rattle.uu_routes.specs.declared.net.Edge.{Edge}
 use Rattle.uu_routes.specs.declared.net.Net.{Net}
 use Rattle.uu_routes.specs.Internal.Numbers.{number_of}
@@ -19,5 +20,12 @@ abbrev pub linked : List (List ℕ) → List SiteLink → List (List Edge) → L
 linked names [] table = table
 linked names (l ∷ ls) table = linked names ls (added table (number_of names l.from) (link_edge names l))
 
-abbrev pub net_of : List (List ℕ) → List FirstHop → List SiteLink → Net
-net_of names first links = record { first = map (hop_edge names) first; links = linked names links (replicate (length names) []) }
+abbrev pub site_edge : List (List ℕ) → ℕ → List ℕ → Edge
+site_edge names cost site = record { to = number_of names site; cost = cost }
+
+-- the links to the sites of a network
+abbrev pub network_edges : List (List ℕ) → SiteNetwork → List Edge
+network_edges names n = map (site_edge names n.cost) n.sites
+
+abbrev pub net_of : List (List ℕ) → List FirstHop → List SiteLink → List SiteNetwork → Net
+net_of names first links networks = record { first = map (hop_edge names) first; links = linked names links (replicate (length names) []); networks = map (network_edges names) networks }

@@ -6,5 +6,5 @@ use Rattle.uu_routes.proofs.first.first_hops.Given as goal
 abbrev pub invariant-loop-system : goal.invariant-loop-system
 invariant-loop-system l = record {
   links : l.links ≡ own_links l.entries l.own;
-  found : l.found.items ≡ filter_map (first_hop l.entries l.links) (take l.system-index l.systems);
+  found : l.found.items ≡ filter_map (first_hop l.entries l.own l.links) (take l.system-index l.systems);
 }

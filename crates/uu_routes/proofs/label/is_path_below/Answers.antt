@@ -1,4 +1,4 @@
-use Rattle.std.proofs.Common.{ap, arith, ◌∙◌}
+use Rattle.std.proofs.Common.{ap, arith}
 use Rattle.std.specs.Ordering.{is_lt}
 use Rattle.uu_routes.proofs.Order.{split_compared}
 use Rattle.uu_routes.proofs.label.is_path_below.Goals as goal

@@ -2,9 +2,9 @@ use Rattle.std.proofs.Common.{◌≡◌, ℕ, ◌+◌, ◌-◌, ◌<◌, suc, Li
 use Rattle.std.proofs.lemmas.List.{length-map}
 use Rattle.uu_routes.specs.declared.net.Edge.{Edge}
 use Rattle.uu_routes.specs.declared.label.Label.{Label}
-use Rattle.uu_routes.specs.Internal.Labels.{rounded, way_of}
-use Rattle.uu_routes.specs.Internal.Nets.{AreFound, AreSound}
-use Rattle.uu_routes.proofs.Rounds.{are_sound_ways, first_found, next_found, steady}
+use Rattle.uu_routes.specs.Internal.Labels.{joined, rounded, way_of}
+use Rattle.uu_routes.specs.Internal.Nets.{AreFound, AreSound, AreSoundNetworks}
+use Rattle.uu_routes.proofs.Rounds.{are_sound_networks, are_sound_ways, first_found, next_found, rounded_size, steady}
 use Rattle.uu_routes.proofs.search.least_ways.Goals as goal
 
 -- how many rounds are left
@@ -45,15 +45,36 @@ round-requires-clause-size c =
     let is : c.deref-in-loop-hops-2.result.now ≡ map (way_of hops) before = c.deref-in-loop-hops-2.ensures.value ∙ (c.in_ok-ways.ensures ∙ ap (map (way_of hops)) c.deref.ensures.value) in
     sym (ap length is ∙ length-map before (way_of hops))
 
+pub join-requires-clause-sound : goal.join-requires-clause-sound
+join-requires-clause-sound c =
+    let net = c.args.net.now in
+    let hops = c.loop-hops.hops in
+    let before = c.loop-hops.labels.items in
+    let is : c.deref-in-loop-hops-3.result.now ≡ map (way_of hops) before = c.deref-in-loop-hops-3.ensures.value ∙ (c.in_ok-ways.ensures ∙ ap (map (way_of hops)) c.deref.ensures.value) in
+    let it : AreSoundNetworks net.networks c.deref-in-loop-hops-3.result.now = are_sound_networks net c.requires hops before c.deref-in-loop-hops-3.result.now (omega (arith, c.loop-hops-test.true)) c.loop-hops.invariant.found is in
+    subst (λ (networks : List (List Edge)). AreSoundNetworks networks c.deref-in-loop-hops-3.result.now) (sym c.as_slice-in-loop-hops.ensures) it
+
+pub join-requires-clause-size : goal.join-requires-clause-size
+join-requires-clause-size c =
+    let hops = c.loop-hops.hops in
+    let before = c.loop-hops.labels.items in
+    let is : c.deref-in-loop-hops-3.result.now ≡ map (way_of hops) before = c.deref-in-loop-hops-3.ensures.value ∙ (c.in_ok-ways.ensures ∙ ap (map (way_of hops)) c.deref.ensures.value) in
+    ap length c.in_ok-round.ensures ∙ (rounded_size c.as_slice-links.result.now c.deref-in-loop-hops-2.result.now before ∙ sym (ap length is ∙ length-map before (way_of hops)))
+
 pub loop-hops-preserved : goal.loop-hops-preserved
 loop-hops-preserved c = record {
   found =
       let net = c.args.net.now in
       let hops = c.loop-hops.hops in
       let before = c.loop-hops.labels.items in
-      let is : c.deref-in-loop-hops-2.result.now ≡ map (way_of hops) before = c.deref-in-loop-hops-2.ensures.value ∙ (c.in_ok-ways.ensures ∙ ap (map (way_of hops)) c.deref.ensures.value) in
-      let new : c.round.new.labels.items ≡ rounded net.links (map (way_of hops) before) before = c.in_ok-round.ensures ∙ (ap (λ links. rounded links c.deref-in-loop-hops-2.result.now before) c.loop-hops.invariant.links ∙ ap (λ ways. rounded net.links ways before) is) in
-      let more : AreFound net (suc hops) c.round.new.labels.items = next_found net c.requires hops before c.round.new.labels.items (omega (arith, c.loop-hops.auto.hops)) c.loop-hops.invariant.found new in
-      subst (λ n. AreFound net n c.round.new.labels.items) (let e : suc hops ≡ hops + 1 = omega arith in e) more;
+      let ways = map (way_of hops) before in
+      let first : c.deref-in-loop-hops-2.result.now ≡ ways = c.deref-in-loop-hops-2.ensures.value ∙ (c.in_ok-ways.ensures ∙ ap (map (way_of hops)) c.deref.ensures.value) in
+      let second : c.deref-in-loop-hops-3.result.now ≡ ways = c.deref-in-loop-hops-3.ensures.value ∙ (c.in_ok-ways.ensures ∙ ap (map (way_of hops)) c.deref.ensures.value) in
+      let mid : c.round.new.labels.items ≡ rounded net.links ways before = c.in_ok-round.ensures ∙ (ap (λ links. rounded links c.deref-in-loop-hops-2.result.now before) c.loop-hops.invariant.links ∙ ap (λ ws. rounded net.links ws before) first) in
+      let new : c.join.new.labels.items ≡ joined net.networks ways (rounded net.links ways before) =
+      c.in_ok-join.ensures ∙ (ap (λ networks. joined networks c.deref-in-loop-hops-3.result.now c.round.new.labels.items) c.as_slice-in-loop-hops.ensures
+      ∙ (ap (λ ws. joined net.networks ws c.round.new.labels.items) second ∙ ap (joined net.networks ways) mid)) in
+      let more : AreFound net (suc hops) c.join.new.labels.items = next_found net c.requires hops before c.join.new.labels.items (omega (arith, c.loop-hops.auto.hops)) c.loop-hops.invariant.found new in
+      subst (λ n. AreFound net n c.join.new.labels.items) (let e : suc hops ≡ hops + 1 = omega arith in e) more;
   links = c.loop-hops.invariant.links;
 }
