@@ -461,20 +461,20 @@ const LINES: &[LineCase] = &[
         "serve (neighbours)",
         &[Act::Line("map", MAP)],
         ("neighbours unc", b""),
-        "duke 495\nmcnc 4000\nphs 20000\nold dead\n= unc-ch\nskipped 5\n",
+        "duke 495\nmcnc 4000\nphs 20000\nold dead\n= unc-ch\nRING 20 {phs, duke}\nskipped 5\n",
     ),
     ("serve (name)", &[], ("name", b""), "mysite\n"),
     (
         "serve (routes)",
         &[LOAD, Act::Line("map", MAP)],
         ("routes --cost", b""),
-        "4000\tduke\tduke!%s\n8000\tmcnc\tunc!mcnc!%s\n24000\tphs\tunc!phs!%s\n4000\tunc\tunc!%s\n",
+        "4000\tduke\tduke!%s\n8000\tmcnc\tunc!mcnc!%s\n4020\tphs\tduke!phs!%s\n4000\tunc\tunc!%s\n",
     ),
     (
         "serve (route)",
         &[LOAD, Act::Line("map", MAP)],
         ("route phs", b""),
-        "phs\tunc!phs!%s\n",
+        "phs\tduke!phs!%s\n",
     ),
 ];
 

@@ -20,9 +20,9 @@ pub(crate) const SYS_FILE: &[u8] =
 pub(crate) const SYS_FILE_DUKE: &[u8] =
     b"timetable Lunch Wk1200-1300\nsystem duke\ntime Lunch 15\ntimegrade C Any\n";
 
-/// A map text with a comment, costs, a dead link, a statement that is skipped and an alias.
+/// A map text with a comment, costs, a dead link, a statement that is skipped, an alias and a network.
 pub(crate) const MAP: &[u8] =
-    b"#N unc\n#S VAX 11/780\nunc duke(HOURLY+HIGH), phs(DAILY*4),\n mcnc, old(DEAD)\nunc x(2/0)\nunc = unc-ch\n";
+    b"#N unc\n#S VAX 11/780\nunc duke(HOURLY+HIGH), phs(DAILY*4),\n mcnc, old(DEAD)\nunc x(2/0)\nunc = unc-ch\nRING = {phs, duke}(20)\n";
 
 /// A message that came by mail.
 pub(crate) const MESSAGE: &[u8] = b"From joe Sat Sep  8 12:00:00 2001 remote from phs\nHello\n";

@@ -161,7 +161,7 @@ const STATEMENTS: [(&str, &str); 28] = [
     ("unc\n a(1)\nunc\n = x", "a 1/= x/"),
     ("unc {a, b}(5)", "skipped 2/"),
     ("unc a, b}", "skipped 2/"),
-    ("unc = {x}\nunc } # {", "skipped 2/skipped 3/"),
+    ("unc = {x}\nunc } # {", "skipped 3/"),
     ("duke a\nunc b(1)", "b 1/skipped 2/"),
     ("uncle a", "skipped 2/"),
     ("Unc a", "skipped 2/"),

@@ -14,6 +14,7 @@ use Rattle.uu_map.specs.declared.entry.Cost.{Cost}
 use Rattle.uu_map.specs.declared.entry.Cost.TheVariants.{Value, Dead}
 use Rattle.uu_map.specs.declared.entry.Link.{Link}
 use Rattle.uu_map.specs.declared.entry.Entry.{Entry}
+use Rattle.uu_map.specs.declared.entry.Network.{Network}
 use Rattle.uu_routes.specs.declared.site.SiteRoute.{SiteRoute}
 use Rattle.uu_bundle.specs.declared.bundle.Refused.{Refused}
 use Rattle.uu_core.specs.Refusal.{refusal_name}
@@ -184,14 +185,26 @@ link_text link = line_of (link.to ∷ cost_text link.cost ∷ [])
 abbrev pub alias_text : List ℕ → List ℕ
 alias_text alias = line_of (codes "=" ∷ alias ∷ [])
 
+-- texts with a comma and a space between two
+abbrev pub after_comma : List ℕ → List ℕ
+after_comma text = codes ", " ++ text
+
+abbrev pub listed : List (List ℕ) → List ℕ
+listed [] = []
+listed (text ∷ texts) = text ++ flat_map after_comma texts
+
+-- `RING 20 {unc, phs}`
+abbrev pub network_text : Network → List ℕ
+network_text network = line_of (network.name ∷ cost_text network.cost ∷ (codes "{" ++ (listed network.sites ++ codes "}")) ∷ [])
+
 -- a line of the input that was skipped
 abbrev pub skipped_text : ℕ → List ℕ
 skipped_text line = line_of (codes "skipped" ∷ decimal line ∷ [])
 
--- what an entry says about its host: the links, the other names, and the lines of the skipped
+-- what an entry says: the links of its host, the other names, the networks, and the lines of the skipped
 -- statements
 abbrev pub links_text : Entry → List ℕ
-links_text entry = flat_map link_text entry.links ++ flat_map alias_text entry.aliases ++ flat_map skipped_text entry.skipped
+links_text entry = flat_map link_text entry.links ++ flat_map alias_text entry.aliases ++ flat_map network_text entry.networks ++ flat_map skipped_text entry.skipped
 
 -- ---- routes (the form of pathalias's output)
 

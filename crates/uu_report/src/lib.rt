@@ -7,6 +7,7 @@ mod due;
 mod jobs;
 mod links;
 mod logged;
+mod networks;
 mod next_calls;
 mod output;
 mod queues;

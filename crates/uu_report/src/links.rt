@@ -5,18 +5,21 @@ ghost use Rattle.std.specs.List.{flat_map};
 ghost use Rattle.std.specs.String.{string_bytes};
 ghost use Rattle.uu_report.specs.Reports.{link_text, alias_text, skipped_text, links_text};
 
+use crate::networks::append_networks;
 use std::alloc::{AllocError, Global};
 use uu_map::{Cost, Entry, Link};
 use uu_names::SiteName;
 
 /// The report of an entry: `NAME COST` or `NAME dead` for each link, then `= ALIAS` for each alias,
-/// then `skipped LINE` for each skipped statement, all in the entry's order.
+/// then `NAME COST {SITE, SITE}` for each network, then `skipped LINE` for each skipped statement, all
+/// in the entry's order.
 pub fn links_report(alloc: Global, entry: &Entry) -> Result<Vec<u8>, AllocError>
     ensures { IfOk result (λ report. report.items ≡ links_text entry.now) }
 {
     let mut report = Vec::new(alloc);
     append_links(alloc, &mut report, entry.links.as_slice())?;
     append_aliases(alloc, &mut report, entry.aliases.as_slice())?;
+    append_networks(alloc, &mut report, entry.networks.as_slice())?;
     append_skipped(alloc, &mut report, entry.skipped.as_slice())?;
     Ok(report)
 }

@@ -1,4 +1,4 @@
-use Rattle.std.proofs.Common.{◌≡◌, ◌++◌, ◌∷◌, map, take}
+use Rattle.std.proofs.Common.{◌≡◌, ◌++◌, map, take}
 use Rattle.uu_report.specs.Logs.{shown}
 use Rattle.uu_report.proofs.logged.push_shown.Given as goal
 

@@ -1,5 +1,5 @@
-use Rattle.std.proofs.Common.{rules, arith, ◌≡◌, ◌<◌, ◌≤◌, ◌∙◌, ◌+◌, ◌∷◌, [], ◌++◌, ap, get_or, length, subst, sym, take}
-use Rattle.std.proofs.lemmas.List.{get_or_default, take_all, take_more}
+use Rattle.std.proofs.Common.{rules, arith, ◌<◌, ◌≤◌, ◌∙◌, ap, length, subst, sym, take}
+use Rattle.std.proofs.lemmas.List.{take_all, take_more}
 use Rattle.std.specs.String.{string_bytes}
 use Rattle.uu_report.specs.Internal.SettledLines.{AreBegun}
 use Rattle.uu_report.proofs.SettledLemmas.{all_settled, none_begun}
