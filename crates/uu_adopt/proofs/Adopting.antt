@@ -1,24 +1,57 @@
 -- How a database is adopted: looked at, and made one of the version that is written.
-use Rattle.std.proofs.Common.{◌≡◌, Option, Some, None, Result, Ok, Err, sym, ap, subst, ◌∙◌, arith}
-use Rattle.std.specs.Prelude.{IfErr}
+use Rattle.std.proofs.Common.{◌≡◌, inl, inr, Option, Some, None, Result, Ok, Err, sym, ap, subst, ◌∙◌, arith}
+use Rattle.std.specs.Prelude.{IfErr, OnOk}
+use Rattle.sqlite.specs.Effect.{Database}
+use Rattle.sqlite.specs.Schema.{Schema}
+use Rattle.sqlite.specs.Tree.{Trees}
 use Rattle.sqlite.specs.State as db
 use Rattle.uu_core.specs.State.{empty}
-use Rattle.uu_schema.specs.Steps.{Stands}
+use Rattle.uu_schema.specs.Steps.{Stands, Rests, StaysUnclean}
 use Rattle.uu_schema.specs.Faults.{IsFaultOfThisCall}
 use Rattle.uu_schema.specs.Encoded.{HoldsAgain, HoldsState}
-use Rattle.uu_schema.specs.Schema.{spool_schema, schema_of, no_schema}
+use Rattle.uu_schema.specs.Schema.{spool_schema, no_schema}
 use Rattle.uu_schema.specs.declared.fault.StoreFault.{StoreFault}
 use Rattle.uu_schema.specs.declared.fault.StoreFault.TheVariants.{Foreign}
 use Rattle.uu_schema.specs.declared.version.Version.{Version}
-use Rattle.uu_schema.specs.declared.version.Version.TheVariants.{Third}
+use Rattle.uu_schema.specs.declared.version.Version.TheVariants.{Fourth}
+use Rattle.uu_schema.specs.Earlier.{IsEarlierVersion, schema_of}
 use Rattle.uu_adopt.specs.declared.tables.Found.TheVariants.{Nothing, Spool, Other}
-use Rattle.uu_adopt.specs.FoundTables.{found_of, IsEarlierVersion}
-use Rattle.uu_adopt.specs.Becoming.{MigratesState}
-use Rattle.uu_adopt.specs.Adoption.{Adopts, AdoptsSpool, Inspects, IsInspected, IsRefused, IsSpared, MakesSchema}
+use Rattle.uu_adopt.specs.FoundTables.{found_of}
+use Rattle.uu_adopt.specs.Becoming.{Becomes, MigratesState}
+use Rattle.uu_adopt.specs.Adoption.{Adopts, AdoptsSpool, Inspects, IsInspected, IsRefused, IsSpared, IsUnmade, MakesSchema}
 use Rattle.uu_adopt.proofs.Creating.{all_of_version, none_found, not_last, not_nothing, not_other, none_or_other, same_tables, some_or_none}
-use Rattle.uu_adopt.proofs.Becoming.{migrated_then, inspected_then, unmade_then, spared_then, spared_migrates, spared_unmade}
+use Rattle.uu_adopt.proofs.Becoming.{migrated_then, inspected_then, unmade_then, spared_then, spared_migrates, spared_unmade, unless_weaker}
 use Rattle.uu_adopt.proofs.Composing.{same_version, not_some}
 use Rattle.uu_adopt.proofs.Inspecting.{inspected_never, inspected_if, becomes_if, spared_self}
+
+-- ---- a database that was read, and then became one of another schema
+
+module _ (a b d : db.State) (first : IsSpared a b (Ok tt)) (early : db.HasCleanDisk d → db.HasCleanDisk b) (from to : Schema) (Step : Trees → Trees → Type 0) where
+  same_stands : db.HasCleanDisk d → Rests a → Stands from a.now → Stands from b.now
+  same_stands clean rests stands = subst (Stands from) (sym (first.same (early clean) rests).1) stands
+
+  stepped : (r : Result (Unit {0}) StoreFault) → b.now ≡ a.now → OnOk r (Rests d × Stands to d.now × Step b.now.trees d.now.trees) → OnOk r (Rests d × Stands to d.now × Step a.now.trees d.now.trees)
+  stepped (Ok x) same it = (it.0, it.1, subst (λ (now : Database). Step now.trees d.now.trees) same it.2)
+  stepped (Err fault) same it = tt
+
+  pub becomes_after : (r : Result (Unit {0}) StoreFault) → Becomes from to Step b d r → Becomes from to Step a d r
+  becomes_after r h = record {
+    ok = λ clean rests stands. stepped r (first.same (early clean) rests).1 (h.ok clean (first.same (early clean) rests).0 (same_stands clean rests stands));
+    memory = λ clean rests stands is. let same = first.same (early clean) rests in let m = h.memory clean same.0 (same_stands clean rests stands) is in (m.0, m.1 ∙ same.1);
+    stop = λ clean rests stands trees may. elim (h.stop clean (first.same (early clean) rests).0 (same_stands clean rests stands) trees may) [
+      | inl before ↦ inl (first.stop (early clean) trees before)
+      | inr made ↦ inr (made.0, subst (λ (now : Database). Step now.trees trees) (first.same (early clean) rests).1 made.1)
+    ];
+  }
+
+  pub unmade_after : (r : Result (Unit {0}) StoreFault) → IsUnmade b d r → IsUnmade a d r
+  unmade_after (Ok x) h = tt
+  unmade_after (Err fault) h = unless_weaker fault (λ less clean trees may. first.stop (early clean) trees (less clean trees may)) h
+
+pub makes_after : (a b d : db.State) (from to : Schema) (Step : Trees → Trees → Type 0) (r : Result (Unit {0}) StoreFault) → IsSpared a b (Ok tt) → StaysUnclean a b → MakesSchema from to Step b d r → MakesSchema from to Step a d r
+makes_after a b d from to Step r first unclean makes =
+    let early : db.HasCleanDisk d → db.HasCleanDisk b = λ clean. omega (arith, clean, makes.clean) in
+    record { becomes = becomes_after a b d first early from to Step r makes.becomes; unmade = unmade_after a b d first early from to Step r makes.unmade; clean = omega (arith, unclean, makes.clean) }
 
 -- ---- a database with a table `spool`
 
@@ -35,8 +68,8 @@ adopts_migrated tables w a b d r early is looked fresh makes spared =
       clean = omega (arith, looked.clean, makes.clean);
     }
 
-pub third_is_current : (tables : Option Version) → tables ≡ Some Third → (v : Version) → IsEarlierVersion v → tables ≡ Some v → ⊥
-third_is_current tables third v early is = not_last v early (same_version tables v Third is third)
+pub fourth_is_current : (tables : Option Version) → tables ≡ Some Fourth → (v : Version) → IsEarlierVersion v → tables ≡ Some v → ⊥
+fourth_is_current tables fourth v early is = not_last v early (same_version tables v Fourth is fourth)
 
 pub none_is_current : (tables : Option Version) → tables ≡ None → (v : Version) → IsEarlierVersion v → tables ≡ Some v → ⊥
 none_is_current tables none v early is = not_some tables v none is

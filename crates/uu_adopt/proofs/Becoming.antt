@@ -6,11 +6,14 @@ use Rattle.sqlite.specs.Schema.{Schema}
 use Rattle.sqlite.specs.Effect.{Database}
 use Rattle.sqlite.specs.Tree.{Trees}
 use Rattle.sqlite.specs.State as db
-use Rattle.uu_schema.specs.Steps.{Stands, Rests, Whole, Did, Undid, Ends}
+use Rattle.sqlite.specs.Store.{Ghosts}
+use Rattle.sqlite.specs.declared.transaction.Transaction.{Transaction}
+use Rattle.uu_schema.specs.Statements.{TakesStep}
+use Rattle.uu_schema.specs.Steps.{Stands, Rests, Whole, Did, Undid, Ends, Went, Outcome}
 use Rattle.uu_core.specs.State.{State, IsWellFormed, empty}
-use Rattle.uu_tables.specs.Tables.{tables_of}
-use Rattle.uu_schema.specs.Held.{MakesEmpty, Migrates}
-use Rattle.uu_schema.specs.Schema.{spool_schema, schema_of}
+use Rattle.uu_schema.specs.Held.{MakesEmpty}
+use Rattle.uu_schema.specs.Schema.{spool_schema}
+use Rattle.uu_schema.specs.Earlier.{schema_of}
 use Rattle.uu_schema.specs.declared.version.Version.{Version}
 use Rattle.uu_schema.specs.Faults.{IsFaultOfThisCall, kind_of_error}
 use Rattle.sqlite.specs.declared.error.Error.{Error}
@@ -22,6 +25,7 @@ use Rattle.uu_schema.specs.Encoded.{HoldsState, HoldsStateAs, HoldsAgain, Migrat
 use Rattle.uu_adopt.specs.Becoming.{Becomes, MigratesState}
 use Rattle.uu_adopt.specs.Adoption.{IsInspected, IsRefused, IsSpared, LeavesNoMore, UnlessFailed, UnlessStore}
 use Rattle.uu_schema.proofs.Resting.{is_memory}
+use Rattle.uu_schema.specs.Earlier.{schema_of}
 
 module _ (from to : Schema) (Step Wanted : Trees → Trees → Type 0) (means : (old new : Trees) → Step old new → Wanted old new) (a b : db.State) where
   pub becomes_ok : {E : Type 0} (w : Result (Unit {0}) E) → IsOk w → Whole from to Step a b w → Becomes from to Wanted a b (Ok tt)
@@ -53,12 +57,9 @@ module _ (from to : Schema) (Step Wanted : Trees → Trees → Type 0) (means : 
       back (Ok x) e undone is_open rests = absurd (cc)
       back (Err x) e undone is_open rests = let u = e.undone is_open in (record { is_open = is_open; idle = whole.idle; settled = u.0 ∙ sym u.1 }, u.0 ∙ sym rests.settled)
 
--- what the two transactions make of the trees, in the words of states
+-- what the transaction makes of the trees, in the words of states
 pub makes_empty : IsWellFormed empty → (old new : Trees) → MakesEmpty old new → HoldsState new empty
 makes_empty good old new step = record { tables = step; good = good }
-
-pub migrates_states : (v : Version) (old new : Trees) → Migrates v old new → HoldsAgain v old new
-migrates_states v old new step s held = record { tables = step (tables_of s) held.tables; good = held.good }
 
 -- ---- after out of memory nothing can have been committed
 
@@ -178,3 +179,33 @@ spared_unmade a b (Store kind) spared = tt
 spared_unmade a b Failed spared = spared.stop
 spared_unmade a b ForeignFault spared = spared.stop
 spared_unmade a b Newer spared = spared.stop
+
+-- ---- the rows are written again, within a transaction
+
+went_again : (to : Schema) (Step Wanted : Trees → Trees → Type 0) {T E : Type 0} (a b : db.State) (r : Result T E) → (Step a.now.trees b.now.trees → Wanted a.now.trees b.now.trees) → OnOk r (Went to Step a b) → OnOk r (Went to Wanted a b)
+went_again to Step Wanted a b (Ok x) means went = record { inside = went.inside; committed = went.committed; stands = went.stands; step = means went.step }
+went_again to Step Wanted a b (Err e) means went = tt
+
+-- the step means something of what was there before
+pub outcome_again : {from to : Schema} {Step Wanted : Trees → Trees → Type 0} {T E : Type 0} (a b : db.State) (r : Result T E) → (db.HasCleanDisk a → Stands from a.now → (trees : Trees) → Step a.now.trees trees → Wanted a.now.trees trees)
+    → Outcome from to Step a b r → Outcome from to Wanted a b r
+outcome_again {to = to} {Step = Step} {Wanted = Wanted} a b r means out = record {
+  went = λ clean inside stands. went_again to Step Wanted a b r (means (omega (arith, clean, out.survives.clean)) stands b.now.trees) (out.went clean inside stands);
+  kept = out.kept;
+  survives = out.survives;
+}
+
+-- nothing was done before the error
+pub nothing_done : {S : Type 0} {g : Ghosts S} {from to : Schema} {Step : Trees → Trees → Type 0} {T E : Type 0} {a : Transaction S} {r : Result T E} → IsErr r → TakesStep g from to Step a a r
+nothing_done {r = r} fails = record {
+  same_reference = refl;
+  outcome = record {
+    went = λ clean inside stands. none _ r fails;
+    kept = λ clean. record { was_open = λ o. o; committed = λ o. refl };
+    survives = record { clean = omega arith; shield = λ s. s; counts = omega arith; limit = refl; closes = λ clean o. inl o; crash = λ clean trees may. inl may };
+  };
+}
+  where
+    none : {T E : Type 0} (P : Type 0) (r : Result T E) → IsErr r → OnOk r P
+    none P (Ok x) fails = absurd (cc)
+    none P (Err e) fails = tt

@@ -9,7 +9,7 @@ use Rattle.sqlite.specs.Store.{Ghosts}
 use Rattle.uu_schema.specs.Steps.{Stands}
 use Rattle.uu_schema.proofs.Questions.{spared_as, spared_then}
 use Rattle.uu_schema.specs.declared.version.Version.{Version}
-use Rattle.uu_schema.specs.Schema.{schema_of}
+use Rattle.uu_schema.specs.Earlier.{schema_of}
 use Rattle.uu_adopt.specs.Reading.{Reads, ReadsFrom}
 
 from_ok : {T E P : Type 0} (r : Result T E) → IsOk r → OnOk r P → P

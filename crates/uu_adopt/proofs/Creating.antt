@@ -6,12 +6,13 @@ use Rattle.sqlite.specs.Effect.{Database}
 use Rattle.sqlite.specs.State as db
 use Rattle.sqlite_schema.specs.Names.{same_name}
 use Rattle.uu_schema.specs.Steps.{Stands}
-use Rattle.uu_schema.specs.Schema.{spool_schema, first_schema, second_schema, no_schema, schema_of}
+use Rattle.uu_schema.specs.Schema.{spool_schema, no_schema}
 use Rattle.uu_schema.specs.declared.version.Version.{Version}
-use Rattle.uu_schema.specs.declared.version.Version.TheVariants.{First, Second, Third}
+use Rattle.uu_schema.specs.declared.version.Version.TheVariants.{First, Second, Third, Fourth}
+use Rattle.uu_schema.specs.Earlier.{IsEarlierVersion, first_schema, second_schema, third_schema, schema_of}
 use Rattle.uu_adopt.specs.declared.tables.Found.{Found}
 use Rattle.uu_adopt.specs.declared.tables.Found.TheVariants.{Nothing, Spool, Other}
-use Rattle.uu_adopt.specs.FoundTables.{found_of, HasNone, HasAllOf, HasEarlier, IsEarlierVersion, HasNoneOrAll, HasUnversionedTables}
+use Rattle.uu_adopt.specs.FoundTables.{found_of, HasNone, HasAllOf, HasEarlier, HasNoneOrAll, HasUnversionedTables}
 
 found_first : found_of first_schema ≡ Spool (Some First)
 unfolding same_name
@@ -21,14 +22,19 @@ found_second : found_of second_schema ≡ Spool (Some Second)
 unfolding same_name
 found_second = refl
 
-found_site : found_of spool_schema ≡ Spool (Some Third)
+found_third : found_of third_schema ≡ Spool (Some Third)
+unfolding same_name
+found_third = refl
+
+found_site : found_of spool_schema ≡ Spool (Some Fourth)
 unfolding same_name
 found_site = refl
 
 found_version : (v : Version) → found_of (schema_of v) ≡ Spool (Some v)
 found_version First = found_first
 found_version Second = found_second
-found_version Third = found_site
+found_version Third = found_third
+found_version Fourth = found_site
 
 pub not_nothing : (v : Version) → Nothing ≡ Spool (Some v) → ⊥
 not_nothing v h = cc
@@ -57,16 +63,17 @@ pub all_found : (v : Version) (d : Database) → Stands (schema_of v) d → ¬ H
 all_found v d stands none = let all = all_of_version v d stands in cc
 
 -- the last version isn't before itself
-pub not_last : (v : Version) → IsEarlierVersion v → v ≡ Third → ⊥
+pub not_last : (v : Version) → IsEarlierVersion v → v ≡ Fourth → ⊥
 not_last First early is = cc
 not_last Second early is = cc
-not_last Third early is = early
+not_last Third early is = cc
+not_last Fourth early is = early
 
 pub last_found : (d : Database) → Stands spool_schema d → ¬ HasEarlier d.schema
 last_found d stands earlier =
-    let all = all_of_version Third d stands in
-    let same : Spool (Some earlier.0) ≡ Spool (Some Third) = sym earlier.2 ∙ all in
-    let is : earlier.0 ≡ Third = cc in
+    let all = all_of_version Fourth d stands in
+    let same : Spool (Some earlier.0) ≡ Spool (Some Fourth) = sym earlier.2 ∙ all in
+    let is : earlier.0 ≡ Fourth = cc in
     not_last earlier.0 earlier.1 is
 
 pub none_or_other : (schema : Schema) → HasNone schema → HasUnversionedTables schema → ⊥

@@ -1,5 +1,5 @@
 -- What is found of the spool's tables is what the format says of them.
-use Rattle.std.proofs.Common.{◌≡◌, ℕ, Bool, true, false, ◌||◌, ◌&&◌, cond, List, [], ◌∷◌, Option, Some, None, codes, find, is_some, refl, ap, ◌∙◌}
+use Rattle.std.proofs.Common.{◌≡◌, ℕ, Bool, true, false, ◌||◌, ◌&&◌, not, cond, List, [], ◌∷◌, Option, Some, None, codes, find, is_some, refl, sym, ap, subst, ◌∙◌}
 use Rattle.std.specs.List.{AllByRecursion, list_all}
 use Rattle.std.specs.Option.{option_map_or}
 use Rattle.std.proofs.lemmas.Bool.{or_parts, and_parts, and_from, or_from}
@@ -8,13 +8,14 @@ use Rattle.sqlite.specs.Schema.{Schema}
 use Rattle.sqlite.specs.Table.{Table}
 use Rattle.sqlite_rules.proofs.ListLemmas.{some_has, some_from}
 use Rattle.sqlite_schema.specs.Names.{same_name}
-use Rattle.uu_schema.specs.Schema.{first_schema, spool, systems, lines, ranges, jobs, pieces, entries, links, taken}
+use Rattle.uu_schema.specs.Schema.{spool_schema, spool, systems, jobs, bodies, entries, links, taken}
+use Rattle.uu_schema.specs.Earlier.{first_schema, old_systems, lines, ranges, old_jobs, pieces, old_entries, IsEarlierVersion}
 use Rattle.uu_schema.specs.declared.version.Version.{Version}
-use Rattle.uu_schema.specs.declared.version.Version.TheVariants.{First, Second, Third}
+use Rattle.uu_schema.specs.declared.version.Version.TheVariants.{First, Second, Third, Fourth}
 use Rattle.uu_adopt.specs.declared.tables.Found.{Found}
 use Rattle.uu_adopt.specs.declared.tables.Found.TheVariants.{Nothing, Spool, Other}
-use Rattle.uu_adopt.specs.FoundTables.{system_column_names, line_column_names, range_column_names, job_column_names, piece_column_names, entry_column_names, wait_column_names, link_column_names, taken_column_names, table_of, has_column, has_table, has_systems, has_jobs, has_waits, has_links, is_whole, is_name_used, is_link_name_used, is_any_name_used, tables_with, found_beside, found_of, HasNone, HasAllOf, HasUnversionedTables}
-use Rattle.uu_adopt.specs.Format.{IsNameFree, HasColumn, HasTable, HasTableOf, HasNoName, HasTablesOf, TellsVersion}
+use Rattle.uu_adopt.specs.FoundTables.{system_column_names, old_system_column_names, line_column_names, range_column_names, job_column_names, body_column_names, piece_column_names, entry_column_names, wait_column_names, link_column_names, taken_column_names, table_of, has_column, has_table, has_jobs, has_old_systems, has_old_jobs, has_waits, has_links, is_whole, was_whole, is_name_used, is_link_name_used, is_old_name_used, is_any_name_used, added_with, tables_with, found_beside, found_of, HasNone, HasAllOf, HasUnversionedTables}
+use Rattle.uu_adopt.specs.Format.{IsNameFree, HasColumn, HasTable, HasTableOf, HasNoName, HasTablesOf, TellsVersion, old_tables}
 
 -- ---- a name
 
@@ -81,33 +82,15 @@ all_three true true false x y z = absurd (cc)
 all_three true false c x y z = absurd (cc)
 all_three false b c x y z = absurd (cc)
 
-seven : (a b c d e f g : Bool) → (a || b || c || d || e || f || g) ≡ false → (a ≡ false) × (b ≡ false) × (c ≡ false) × (d ≡ false) × (e ≡ false) × (f ≡ false) × (g ≡ false)
-seven false false false false false false false is = (refl, refl, refl, refl, refl, refl, refl)
-seven true b c d e f g is = absurd (cc)
-seven false true c d e f g is = absurd (cc)
-seven false false true d e f g is = absurd (cc)
-seven false false false true e f g is = absurd (cc)
-seven false false false false true f g is = absurd (cc)
-seven false false false false false true g is = absurd (cc)
-seven false false false false false false true is = absurd (cc)
+four : (a b c d : Bool) → (a || b || c || d) ≡ false → (a ≡ false) × (b ≡ false) × (c ≡ false) × (d ≡ false)
+four a b c d is =
+    let last = or_parts (a || b || c) d is in
+    let third = or_parts (a || b) c last.0 in
+    let first = or_parts a b third.0 in
+    (first.0, first.1, third.1, last.1)
 
-none_of_seven : (a b c d e f g : Bool) → a ≡ false → b ≡ false → c ≡ false → d ≡ false → e ≡ false → f ≡ false → g ≡ false → (a || b || c || d || e || f || g) ≡ false
-none_of_seven false false false false false false false p q r s t u v = refl
-none_of_seven true b c d e f g p q r s t u v = absurd (cc)
-none_of_seven false true c d e f g p q r s t u v = absurd (cc)
-none_of_seven false false true d e f g p q r s t u v = absurd (cc)
-none_of_seven false false false true e f g p q r s t u v = absurd (cc)
-none_of_seven false false false false true f g p q r s t u v = absurd (cc)
-none_of_seven false false false false false true g p q r s t u v = absurd (cc)
-none_of_seven false false false false false false true p q r s t u v = absurd (cc)
-
--- eight, the last of which is one of two
-nine : (a b c d e f g h i : Bool) → (a || b || c || d || e || f || g || (h || i)) ≡ false → (a ≡ false) × (b ≡ false) × (c ≡ false) × (d ≡ false) × (e ≡ false) × (f ≡ false) × (g ≡ false) × (h ≡ false) × (i ≡ false)
-nine a b c d e f g h i is =
-    let parts = or_parts (a || b || c || d || e || f || g) (h || i) is in
-    let first = seven a b c d e f g parts.0 in
-    let last = or_parts h i parts.1 in
-    (first.0, first.1, first.2, first.3, first.4, first.5, first.6, last.0, last.1)
+none_of_four : (a b c d : Bool) → a ≡ false → b ≡ false → c ≡ false → d ≡ false → (a || b || c || d) ≡ false
+none_of_four a b c d p q r s = or_from (a || b || c) d (or_from (a || b) c (or_from a b p q) r) s
 
 -- ---- none of the tables
 
@@ -118,17 +101,32 @@ module _ (schema : Schema) where
   free_links : is_link_name_used schema ≡ false → IsNameFree schema (codes "links") × IsNameFree schema (codes "taken")
   free_links is = let it = or_parts (is_name_used schema (codes "links")) (is_name_used schema (codes "taken")) is in (free schema (codes "links") it.0, free schema (codes "taken") it.1)
 
+  free_old : is_old_name_used schema ≡ false → AllByRecursion (λ (table : Table). IsNameFree schema table.name) old_tables
+  free_old is =
+      let it = four (is_name_used schema (codes "lines")) (is_name_used schema (codes "ranges")) (is_name_used schema (codes "pieces")) (is_name_used schema (codes "success_waits")) is in
+      (free schema (codes "lines") it.0, (free schema (codes "ranges") it.1, (free schema (codes "pieces") it.2, (free schema (codes "success_waits") it.3, tt))))
+
+  old_free : AllByRecursion (λ (table : Table). IsNameFree schema table.name) old_tables → is_old_name_used schema ≡ false
+  old_free it =
+      none_of_four (is_name_used schema (codes "lines")) (is_name_used schema (codes "ranges")) (is_name_used schema (codes "pieces")) (is_name_used schema (codes "success_waits"))
+      (not_taken schema (codes "lines") it.0) (not_taken schema (codes "ranges") it.1.0) (not_taken schema (codes "pieces") it.1.1.0) (not_taken schema (codes "success_waits") it.1.1.1.0)
+
   names_free : table_of schema (codes "spool") ≡ None → is_any_name_used schema ≡ false → HasNoName schema
   names_free none is =
-      let it = nine (is_name_used schema (codes "systems")) (is_name_used schema (codes "lines")) (is_name_used schema (codes "ranges")) (is_name_used schema (codes "jobs")) (is_name_used schema (codes "pieces")) (is_name_used schema (codes "entries")) (is_name_used schema (codes "success_waits")) (is_name_used schema (codes "links")) (is_name_used schema (codes "taken")) is in
-      (none_free (codes "spool") schema.tables none, (free schema (codes "systems") it.0, (free schema (codes "lines") it.1, (free schema (codes "ranges") it.2, (free schema (codes "jobs") it.3, (free schema (codes "pieces") it.4, (free schema (codes "entries") it.5, (free schema (codes "success_waits") it.6, (free schema (codes "links") it.7, (free schema (codes "taken") it.8, tt))))))))))
+      let last = or_parts (is_name_used schema (codes "systems") || is_name_used schema (codes "jobs") || is_name_used schema (codes "bodies") || is_name_used schema (codes "entries") || is_link_name_used schema) (is_old_name_used schema) is in
+      let those = or_parts (is_name_used schema (codes "systems") || is_name_used schema (codes "jobs") || is_name_used schema (codes "bodies") || is_name_used schema (codes "entries")) (is_link_name_used schema) last.0 in
+      let it = four (is_name_used schema (codes "systems")) (is_name_used schema (codes "jobs")) (is_name_used schema (codes "bodies")) (is_name_used schema (codes "entries")) those.0 in
+      let link = free_links those.1 in
+      ((none_free (codes "spool") schema.tables none, (free schema (codes "systems") it.0, (free schema (codes "jobs") it.1, (free schema (codes "bodies") it.2, (free schema (codes "entries") it.3, (link.0, (link.1, tt))))))), free_old last.1)
 
   any_free : HasNoName schema → is_any_name_used schema ≡ false
   any_free it =
-      or_from _ (is_link_name_used schema) (none_of_seven (is_name_used schema (codes "systems")) (is_name_used schema (codes "lines")) (is_name_used schema (codes "ranges")) (is_name_used schema (codes "jobs")) (is_name_used schema (codes "pieces")) (is_name_used schema (codes "entries")) (is_name_used schema (codes "success_waits"))
-      (not_taken schema (codes "systems") it.1.0) (not_taken schema (codes "lines") it.1.1.0) (not_taken schema (codes "ranges") it.1.1.1.0) (not_taken schema (codes "jobs") it.1.1.1.1.0) (not_taken schema (codes "pieces") it.1.1.1.1.1.0)
-      (not_taken schema (codes "entries") it.1.1.1.1.1.1.0) (not_taken schema (codes "success_waits") it.1.1.1.1.1.1.1.0))
-      (links_free it.1.1.1.1.1.1.1.1.0 it.1.1.1.1.1.1.1.1.1.0)
+      or_from _ (is_old_name_used schema)
+      (or_from _ (is_link_name_used schema)
+      (none_of_four (is_name_used schema (codes "systems")) (is_name_used schema (codes "jobs")) (is_name_used schema (codes "bodies")) (is_name_used schema (codes "entries"))
+      (not_taken schema (codes "systems") it.0.1.0) (not_taken schema (codes "jobs") it.0.1.1.0) (not_taken schema (codes "bodies") it.0.1.1.1.0) (not_taken schema (codes "entries") it.0.1.1.1.1.0))
+      (links_free it.0.1.1.1.1.1.0 it.0.1.1.1.1.1.1.0))
+      (old_free it.1)
 
   pub none_is : HasNone schema → HasNoName schema
   none_is none = go (table_of schema (codes "spool")) refl none
@@ -146,7 +144,7 @@ module _ (schema : Schema) where
       go (Some table) is none_found = absurd (some (has_column table (codes "id") && has_column table (codes "version")) (tables_with schema table) none_found)
 
   pub is_none : HasNoName schema → HasNone schema
-  is_none it = ap (found_beside schema) (free_none (codes "spool") schema.tables it.0) ∙ ap (λ b. cond b Other Nothing) (any_free it)
+  is_none it = ap (found_beside schema) (free_none (codes "spool") schema.tables it.0.0) ∙ ap (λ b. cond b Other Nothing) (any_free it)
 
   -- ---- all of the tables of a version
 
@@ -192,64 +190,11 @@ module _ (schema : Schema) where
   spool_there : (it : TellsVersion schema) → has_column it.table (codes "next") ≡ true → HasTableOf schema spool
   spool_there it next = record { table = it.table; is_first = it.is_first; has_all = (it.has_all.0, (it.has_all.1.0, (some_has (λ c. same_name c.name (codes "next")) it.table.columns next, tt))) }
 
-  first_there : (it : TellsVersion schema) → is_whole schema it.table ≡ true → AllByRecursion (HasTableOf schema) first_schema.tables
-  first_there it whole =
-      let all = three (has_column it.table (codes "next")) (has_systems schema) (has_jobs schema) whole in
-      let a = three (has_table schema (codes "systems") system_column_names) (has_table schema (codes "lines") line_column_names) (has_table schema (codes "ranges") range_column_names) all.1 in
-      let b = three (has_table schema (codes "jobs") job_column_names) (has_table schema (codes "pieces") piece_column_names) (has_table schema (codes "entries") entry_column_names) all.2 in
-      (spool_there it all.0, (table_there schema (codes "systems") system_column_names a.0, (table_there schema (codes "lines") line_column_names a.1, (table_there schema (codes "ranges") range_column_names a.2, (table_there schema (codes "jobs") job_column_names b.0, (table_there schema (codes "pieces") piece_column_names b.1, (table_there schema (codes "entries") entry_column_names b.2, tt)))))))
+  next_there : (it : HasTableOf schema spool) → has_column it.table (codes "next") ≡ true
+  next_there it = let next = it.has_all.1.1.0 in some_from (λ c. same_name c.name (codes "next")) it.table.columns next.0 next.1 next.2
 
   abbrev told_by : HasTableOf schema spool → TellsVersion schema
   told_by it = record { table = it.table; is_first = it.is_first; has_all = (it.has_all.0, (it.has_all.1.0, tt)) }
-
-  first_found : (it : HasTableOf schema spool) → HasTableOf schema systems → HasTableOf schema lines → HasTableOf schema ranges → HasTableOf schema jobs → HasTableOf schema pieces → HasTableOf schema entries
-      → is_whole schema it.table ≡ true
-  first_found it a b c d e f =
-      let next = it.has_all.1.1.0 in
-      all_three (has_column it.table (codes "next")) (has_systems schema) (has_jobs schema) (some_from (λ c. same_name c.name (codes "next")) it.table.columns next.0 next.1 next.2)
-      (all_three (has_table schema (codes "systems") system_column_names) (has_table schema (codes "lines") line_column_names) (has_table schema (codes "ranges") range_column_names)
-      (table_found schema (codes "systems") system_column_names a) (table_found schema (codes "lines") line_column_names b) (table_found schema (codes "ranges") range_column_names c))
-      (all_three (has_table schema (codes "jobs") job_column_names) (has_table schema (codes "pieces") piece_column_names) (has_table schema (codes "entries") entry_column_names)
-      (table_found schema (codes "jobs") job_column_names d) (table_found schema (codes "pieces") piece_column_names e) (table_found schema (codes "entries") entry_column_names f))
-
-  abbrev chosen : Bool → Bool → Bool → Bool → Bool → Option Version
-  chosen whole waits links finds_waits link_taken = cond whole (cond waits (cond links (Some Third) (cond link_taken None (Some Second))) (cond (finds_waits || link_taken) None (Some First))) None
-
-  third_chosen : (w h l t n : Bool) → chosen w h l t n ≡ Some Third → (w ≡ true) × (h ≡ true) × (l ≡ true)
-  third_chosen true true true t n is = (refl, refl, refl)
-  third_chosen true true false t true is = absurd (cc)
-  third_chosen true true false t false is = absurd (let same : Second ≡ Third = cc in cc)
-  third_chosen true false l true n is = absurd (cc)
-  third_chosen true false l false true is = absurd (cc)
-  third_chosen true false l false false is = absurd (let same : First ≡ Third = cc in cc)
-  third_chosen false h l t n is = absurd (cc)
-
-  second_chosen : (w h l t n : Bool) → chosen w h l t n ≡ Some Second → (w ≡ true) × (h ≡ true) × (n ≡ false)
-  second_chosen true true true t n is = absurd (let same : Third ≡ Second = cc in cc)
-  second_chosen true true false t true is = absurd (cc)
-  second_chosen true true false t false is = (refl, refl, refl)
-  second_chosen true false l true n is = absurd (cc)
-  second_chosen true false l false true is = absurd (cc)
-  second_chosen true false l false false is = absurd (let same : First ≡ Second = cc in cc)
-  second_chosen false h l t n is = absurd (cc)
-
-  first_chosen : (w h l t n : Bool) → chosen w h l t n ≡ Some First → (w ≡ true) × (t ≡ false) × (n ≡ false)
-  first_chosen true true true t n is = absurd (let same : Third ≡ First = cc in cc)
-  first_chosen true true false t true is = absurd (cc)
-  first_chosen true true false t false is = absurd (let same : Second ≡ First = cc in cc)
-  first_chosen true false l true n is = absurd (cc)
-  first_chosen true false l false true is = absurd (cc)
-  first_chosen true false l false false is = (refl, refl, refl)
-  first_chosen false h l t n is = absurd (cc)
-
-  choose_third : (w h l t n : Bool) → w ≡ true → h ≡ true → l ≡ true → chosen w h l t n ≡ Some Third
-  choose_third w h l t n whole waits links = rw (whole, waits, links) refl
-
-  choose_second : (w h l t n : Bool) → w ≡ true → h ≡ true → l ≡ false → n ≡ false → chosen w h l t n ≡ Some Second
-  choose_second w h l t n whole waits links named = rw (whole, waits, links, named) refl
-
-  choose_first : (w h l t n : Bool) → w ≡ true → h ≡ false → t ≡ false → n ≡ false → chosen w h l t n ≡ Some First
-  choose_first w h l t n whole waits taken named = rw (whole, waits, taken, named) refl
 
   links_there : has_links schema ≡ true → HasTableOf schema links × HasTableOf schema taken
   links_there is = let it = and_parts (has_table schema (codes "links") link_column_names) (has_table schema (codes "taken") taken_column_names) is in (table_there schema (codes "links") link_column_names it.0, table_there schema (codes "taken") taken_column_names it.1)
@@ -260,38 +205,184 @@ module _ (schema : Schema) where
   no_links : IsNameFree schema (codes "links") → has_links schema ≡ false
   no_links it = ap (λ b. b && has_table schema (codes "taken") taken_column_names) (lacks schema (codes "links") link_column_names it)
 
+  -- ---- those of version 4
+
+  whole_there : (it : TellsVersion schema) → has_column it.table (codes "next") ≡ true → is_whole schema ≡ true → AllByRecursion (HasTableOf schema) spool_schema.tables
+  whole_there it next whole =
+      let all = three (has_table schema (codes "systems") system_column_names) (has_jobs schema) (has_links schema) whole in
+      let a = three (has_table schema (codes "jobs") job_column_names) (has_table schema (codes "bodies") body_column_names) (has_table schema (codes "entries") entry_column_names) all.1 in
+      let b = links_there all.2 in
+      (spool_there it next, (table_there schema (codes "systems") system_column_names all.0, (table_there schema (codes "jobs") job_column_names a.0, (table_there schema (codes "bodies") body_column_names a.1, (table_there schema (codes "entries") entry_column_names a.2, (b.0, (b.1, tt)))))))
+
+  whole_found : HasTableOf schema systems → HasTableOf schema jobs → HasTableOf schema bodies → HasTableOf schema entries → HasTableOf schema links → HasTableOf schema taken → is_whole schema ≡ true
+  whole_found a b c d e f =
+      all_three (has_table schema (codes "systems") system_column_names) (has_jobs schema) (has_links schema) (table_found schema (codes "systems") system_column_names a)
+      (all_three (has_table schema (codes "jobs") job_column_names) (has_table schema (codes "bodies") body_column_names) (has_table schema (codes "entries") entry_column_names)
+      (table_found schema (codes "jobs") job_column_names b) (table_found schema (codes "bodies") body_column_names c) (table_found schema (codes "entries") entry_column_names d))
+      (links_found e f)
+
+  without_bodies : (s j b e l : Bool) → b ≡ false → (s && (j && b && e) && l) ≡ false
+  without_bodies true true false e l is = refl
+  without_bodies true false false e l is = refl
+  without_bodies false j false e l is = refl
+  without_bodies s j true e l is = absurd (cc)
+
+  not_whole : IsNameFree schema (codes "bodies") → is_whole schema ≡ false
+  not_whole it =
+      without_bodies (has_table schema (codes "systems") system_column_names) (has_table schema (codes "jobs") job_column_names) (has_table schema (codes "bodies") body_column_names) (has_table schema (codes "entries") entry_column_names) (has_links schema)
+      (lacks schema (codes "bodies") body_column_names it)
+
+  -- ---- those of earlier versions
+
+  first_there : (it : TellsVersion schema) → has_column it.table (codes "next") ≡ true → was_whole schema ≡ true → AllByRecursion (HasTableOf schema) first_schema.tables
+  first_there it next whole =
+      let all = and_parts (has_old_systems schema) (has_old_jobs schema) whole in
+      let a = three (has_table schema (codes "systems") old_system_column_names) (has_table schema (codes "lines") line_column_names) (has_table schema (codes "ranges") range_column_names) all.0 in
+      let b = three (has_table schema (codes "jobs") job_column_names) (has_table schema (codes "pieces") piece_column_names) (has_table schema (codes "entries") entry_column_names) all.1 in
+      (spool_there it next, (table_there schema (codes "systems") old_system_column_names a.0, (table_there schema (codes "lines") line_column_names a.1, (table_there schema (codes "ranges") range_column_names a.2, (table_there schema (codes "jobs") job_column_names b.0, (table_there schema (codes "pieces") piece_column_names b.1, (table_there schema (codes "entries") entry_column_names b.2, tt)))))))
+
+  first_found : HasTableOf schema old_systems → HasTableOf schema lines → HasTableOf schema ranges → HasTableOf schema old_jobs → HasTableOf schema pieces → HasTableOf schema old_entries → was_whole schema ≡ true
+  first_found a b c d e f =
+      and_from (has_old_systems schema) (has_old_jobs schema)
+      (all_three (has_table schema (codes "systems") old_system_column_names) (has_table schema (codes "lines") line_column_names) (has_table schema (codes "ranges") range_column_names)
+      (table_found schema (codes "systems") old_system_column_names a) (table_found schema (codes "lines") line_column_names b) (table_found schema (codes "ranges") range_column_names c))
+      (all_three (has_table schema (codes "jobs") job_column_names) (has_table schema (codes "pieces") piece_column_names) (has_table schema (codes "entries") entry_column_names)
+      (table_found schema (codes "jobs") job_column_names d) (table_found schema (codes "pieces") piece_column_names e) (table_found schema (codes "entries") entry_column_names f))
+
+  -- ---- which version is chosen
+
+  abbrev added : Bool → Bool → Bool → Bool → Option Version
+  added waits links named linked = cond waits (cond links (Some Third) (cond linked None (Some Second))) (cond (named || linked) None (Some First))
+
+  abbrev chosen : Bool → Bool → Bool → Bool → Bool → Option Version → Option Version
+  chosen next whole old was named rest = cond next (cond whole (cond old None (Some Fourth)) (cond (was && not named) rest None)) None
+
+  not_fourth : (h l t n : Bool) → added h l t n ≡ Some Fourth → ⊥
+  not_fourth true true t n is = cc
+  not_fourth true false t true is = cc
+  not_fourth true false t false is = cc
+  not_fourth false l true n is = cc
+  not_fourth false l false true is = cc
+  not_fourth false l false false is = cc
+
+  third_added : (h l t n : Bool) → added h l t n ≡ Some Third → (h ≡ true) × (l ≡ true)
+  third_added true true t n is = (refl, refl)
+  third_added true false t true is = absurd (cc)
+  third_added true false t false is = absurd (let same : Second ≡ Third = cc in cc)
+  third_added false l true n is = absurd (cc)
+  third_added false l false true is = absurd (cc)
+  third_added false l false false is = absurd (let same : First ≡ Third = cc in cc)
+
+  second_added : (h l t n : Bool) → added h l t n ≡ Some Second → (h ≡ true) × (n ≡ false)
+  second_added true true t n is = absurd (let same : Third ≡ Second = cc in cc)
+  second_added true false t true is = absurd (cc)
+  second_added true false t false is = (refl, refl)
+  second_added false l true n is = absurd (cc)
+  second_added false l false true is = absurd (cc)
+  second_added false l false false is = absurd (let same : First ≡ Second = cc in cc)
+
+  first_added : (h l t n : Bool) → added h l t n ≡ Some First → (t ≡ false) × (n ≡ false)
+  first_added true true t n is = absurd (let same : Third ≡ First = cc in cc)
+  first_added true false t true is = absurd (cc)
+  first_added true false t false is = absurd (let same : Second ≡ First = cc in cc)
+  first_added false l true n is = absurd (cc)
+  first_added false l false true is = absurd (cc)
+  first_added false l false false is = (refl, refl)
+
+  earlier_chosen : (v : Version) → IsEarlierVersion v → (n w o b m : Bool) (rest : Option Version) → chosen n w o b m rest ≡ Some v → (n ≡ true) × (b ≡ true) × (m ≡ false) × (rest ≡ Some v)
+  earlier_chosen v earlier true true true b m rest is = absurd (cc)
+  earlier_chosen v earlier true true false b m rest is = absurd (let same : Fourth ≡ v = cc in subst IsEarlierVersion (sym same) earlier)
+  earlier_chosen v earlier true false o true false rest is = (refl, refl, refl, is)
+  earlier_chosen v earlier true false o true true rest is = absurd (cc)
+  earlier_chosen v earlier true false o false m rest is = absurd (cc)
+  earlier_chosen v earlier false w o b m rest is = absurd (cc)
+
+  fourth_chosen : (n w o b m : Bool) (rest : Option Version) → (rest ≡ Some Fourth → ⊥) → chosen n w o b m rest ≡ Some Fourth → (n ≡ true) × (w ≡ true) × (o ≡ false)
+  fourth_chosen true true true b m rest never is = absurd (cc)
+  fourth_chosen true true false b m rest never is = (refl, refl, refl)
+  fourth_chosen true false o true false rest never is = absurd (never is)
+  fourth_chosen true false o true true rest never is = absurd (cc)
+  fourth_chosen true false o false m rest never is = absurd (cc)
+  fourth_chosen false w o b m rest never is = absurd (cc)
+
+  choose_earlier : (n w o b m : Bool) (rest : Option Version) → n ≡ true → w ≡ false → b ≡ true → m ≡ false → chosen n w o b m rest ≡ rest
+  choose_earlier n w o b m rest next whole was named = rw (next, whole, was, named) refl
+
+  choose_fourth : (n w o b m : Bool) (rest : Option Version) → n ≡ true → w ≡ true → o ≡ false → chosen n w o b m rest ≡ Some Fourth
+  choose_fourth n w o b m rest next whole old = rw (next, whole, old) refl
+
+  choose_third : (h l t n : Bool) → h ≡ true → l ≡ true → added h l t n ≡ Some Third
+  choose_third h l t n waits links = rw (waits, links) refl
+
+  choose_second : (h l t n : Bool) → h ≡ true → l ≡ false → n ≡ false → added h l t n ≡ Some Second
+  choose_second h l t n waits links linked = rw (waits, links, linked) refl
+
+  choose_first : (h l t n : Bool) → h ≡ false → t ≡ false → n ≡ false → added h l t n ≡ Some First
+  choose_first h l t n waits named linked = rw (waits, named, linked) refl
+
+  -- ---- all of the tables of a version
+
+  pub record Earlier (v : Version) : Type 0 where
+    pub first : AllByRecursion (HasTableOf schema) first_schema.tables
+    pub none : IsNameFree schema (codes "bodies")
+    pub rest : added (has_waits schema) (has_links schema) (is_name_used schema (codes "success_waits")) (is_link_name_used schema) ≡ Some v
+
+  found_earlier : (v : Version) → IsEarlierVersion v → HasAllOf v schema → Earlier v
+  found_earlier v earlier all =
+      let found = with_spool (Some v) all in
+      let is = earlier_chosen v earlier (has_column found.it.table (codes "next")) (is_whole schema) (is_old_name_used schema) (was_whole schema) (is_name_used schema (codes "bodies")) (added_with schema) found.with_tables in
+      record { first = first_there found.it is.0 is.1; none = free schema (codes "bodies") is.2; rest = is.3 }
+
+  earlier_found : (v : Version) → AllByRecursion (HasTableOf schema) first_schema.tables → IsNameFree schema (codes "bodies") → added (has_waits schema) (has_links schema) (is_name_used schema (codes "success_waits")) (is_link_name_used schema) ≡ Some v → HasAllOf v schema
+  earlier_found v it none is =
+      tells (told_by it.0)
+      ∙ ap Spool (choose_earlier (has_column it.0.table (codes "next")) (is_whole schema) (is_old_name_used schema) (was_whole schema) (is_name_used schema (codes "bodies")) (added_with schema) (next_there it.0) (not_whole none)
+      (first_found it.1.0 it.1.1.0 it.1.1.1.0 it.1.1.1.1.0 it.1.1.1.1.1.0 it.1.1.1.1.1.1.0) (not_taken schema (codes "bodies") none) ∙ is)
+
   pub all_are : (v : Version) → HasAllOf v schema → HasTablesOf v schema
   all_are First all =
-      let found = with_spool (Some First) all in
-      let is = first_chosen (is_whole schema found.it.table) (has_waits schema) (has_links schema) (is_name_used schema (codes "success_waits")) (is_link_name_used schema) found.with_tables in
-      let rest = free_links is.2 in
-      record { all = first_there found.it is.0; none_later = (free schema (codes "success_waits") is.1, (rest.0, (rest.1, tt))) }
+      let it = found_earlier First tt all in
+      let is = first_added (has_waits schema) (has_links schema) (is_name_used schema (codes "success_waits")) (is_link_name_used schema) it.rest in
+      let rest = free_links is.1 in
+      record { all = it.first; none_other = (it.none, (free schema (codes "success_waits") is.0, (rest.0, (rest.1, tt)))) }
   all_are Second all =
-      let found = with_spool (Some Second) all in
-      let is = second_chosen (is_whole schema found.it.table) (has_waits schema) (has_links schema) (is_name_used schema (codes "success_waits")) (is_link_name_used schema) found.with_tables in
-      let first = first_there found.it is.0 in
-      let rest = free_links is.2 in
-      record { all = (first.0, (first.1.0, (first.1.1.0, (first.1.1.1.0, (first.1.1.1.1.0, (first.1.1.1.1.1.0, (first.1.1.1.1.1.1.0, (table_there schema (codes "success_waits") wait_column_names is.1, tt)))))))); none_later = (rest.0, (rest.1, tt)) }
+      let it = found_earlier Second tt all in
+      let is = second_added (has_waits schema) (has_links schema) (is_name_used schema (codes "success_waits")) (is_link_name_used schema) it.rest in
+      let first = it.first in
+      let rest = free_links is.1 in
+      record { all = (first.0, (first.1.0, (first.1.1.0, (first.1.1.1.0, (first.1.1.1.1.0, (first.1.1.1.1.1.0, (first.1.1.1.1.1.1.0, (table_there schema (codes "success_waits") wait_column_names is.0, tt)))))))); none_other = (it.none, (rest.0, (rest.1, tt))) }
   all_are Third all =
-      let found = with_spool (Some Third) all in
-      let is = third_chosen (is_whole schema found.it.table) (has_waits schema) (has_links schema) (is_name_used schema (codes "success_waits")) (is_link_name_used schema) found.with_tables in
-      let first = first_there found.it is.0 in
-      let rest = links_there is.2 in
-      record { all = (first.0, (first.1.0, (first.1.1.0, (first.1.1.1.0, (first.1.1.1.1.0, (first.1.1.1.1.1.0, (first.1.1.1.1.1.1.0, (table_there schema (codes "success_waits") wait_column_names is.1, (rest.0, (rest.1, tt)))))))))); none_later = tt }
+      let it = found_earlier Third tt all in
+      let is = third_added (has_waits schema) (has_links schema) (is_name_used schema (codes "success_waits")) (is_link_name_used schema) it.rest in
+      let first = it.first in
+      let rest = links_there is.1 in
+      record { all = (first.0, (first.1.0, (first.1.1.0, (first.1.1.1.0, (first.1.1.1.1.0, (first.1.1.1.1.1.0, (first.1.1.1.1.1.1.0, (table_there schema (codes "success_waits") wait_column_names is.0, (rest.0, (rest.1, tt)))))))))); none_other = (it.none, tt) }
+  all_are Fourth all =
+      let found = with_spool (Some Fourth) all in
+      let is = fourth_chosen (has_column found.it.table (codes "next")) (is_whole schema) (is_old_name_used schema) (was_whole schema) (is_name_used schema (codes "bodies")) (added_with schema)
+      (not_fourth (has_waits schema) (has_links schema) (is_name_used schema (codes "success_waits")) (is_link_name_used schema)) found.with_tables in
+      record { all = whole_there found.it is.0 is.1; none_other = free_old is.2 }
+
+  abbrev early : {A B C D E F G Z : Type 0} → A × (B × (C × (D × (E × (F × (G × Z)))))) → A × (B × (C × (D × (E × (F × (G × Unit {0}))))))
+  early it = (it.0, (it.1.0, (it.1.1.0, (it.1.1.1.0, (it.1.1.1.1.0, (it.1.1.1.1.1.0, (it.1.1.1.1.1.1.0, tt)))))))
 
   pub are_all : (v : Version) → HasTablesOf v schema → HasAllOf v schema
   are_all First it =
-      tells (told_by it.all.0)
-      ∙ ap Spool (choose_first (is_whole schema it.all.0.table) (has_waits schema) (has_links schema) (is_name_used schema (codes "success_waits")) (is_link_name_used schema) (first_found it.all.0 it.all.1.0 it.all.1.1.0 it.all.1.1.1.0 it.all.1.1.1.1.0 it.all.1.1.1.1.1.0 it.all.1.1.1.1.1.1.0)
-      (lacks schema (codes "success_waits") wait_column_names it.none_later.0) (not_taken schema (codes "success_waits") it.none_later.0) (links_free it.none_later.1.0 it.none_later.1.1.0))
+      earlier_found First it.all it.none_other.0
+      (choose_first (has_waits schema) (has_links schema) (is_name_used schema (codes "success_waits")) (is_link_name_used schema)
+      (lacks schema (codes "success_waits") wait_column_names it.none_other.1.0) (not_taken schema (codes "success_waits") it.none_other.1.0) (links_free it.none_other.1.1.0 it.none_other.1.1.1.0))
   are_all Second it =
-      tells (told_by it.all.0)
-      ∙ ap Spool (choose_second (is_whole schema it.all.0.table) (has_waits schema) (has_links schema) (is_name_used schema (codes "success_waits")) (is_link_name_used schema) (first_found it.all.0 it.all.1.0 it.all.1.1.0 it.all.1.1.1.0 it.all.1.1.1.1.0 it.all.1.1.1.1.1.0 it.all.1.1.1.1.1.1.0)
-      (table_found schema (codes "success_waits") wait_column_names it.all.1.1.1.1.1.1.1.0) (no_links it.none_later.0) (links_free it.none_later.0 it.none_later.1.0))
+      earlier_found Second (early it.all) it.none_other.0
+      (choose_second (has_waits schema) (has_links schema) (is_name_used schema (codes "success_waits")) (is_link_name_used schema)
+      (table_found schema (codes "success_waits") wait_column_names it.all.1.1.1.1.1.1.1.0) (no_links it.none_other.1.0) (links_free it.none_other.1.0 it.none_other.1.1.0))
   are_all Third it =
-      tells (told_by it.all.0)
-      ∙ ap Spool (choose_third (is_whole schema it.all.0.table) (has_waits schema) (has_links schema) (is_name_used schema (codes "success_waits")) (is_link_name_used schema) (first_found it.all.0 it.all.1.0 it.all.1.1.0 it.all.1.1.1.0 it.all.1.1.1.1.0 it.all.1.1.1.1.1.0 it.all.1.1.1.1.1.1.0)
+      earlier_found Third (early it.all) it.none_other.0
+      (choose_third (has_waits schema) (has_links schema) (is_name_used schema (codes "success_waits")) (is_link_name_used schema)
       (table_found schema (codes "success_waits") wait_column_names it.all.1.1.1.1.1.1.1.0) (links_found it.all.1.1.1.1.1.1.1.1.0 it.all.1.1.1.1.1.1.1.1.1.0))
+  are_all Fourth it =
+      tells (told_by it.all.0)
+      ∙ ap Spool (choose_fourth (has_column it.all.0.table (codes "next")) (is_whole schema) (is_old_name_used schema) (was_whole schema) (is_name_used schema (codes "bodies")) (added_with schema) (next_there it.all.0)
+      (whole_found it.all.1.0 it.all.1.1.0 it.all.1.1.1.0 it.all.1.1.1.1.0 it.all.1.1.1.1.1.0 it.all.1.1.1.1.1.1.0) (old_free it.none_other))
 
   -- ---- something else
 

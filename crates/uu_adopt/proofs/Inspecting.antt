@@ -8,20 +8,19 @@ use Rattle.uu_schema.proofs.Questions.{spared_same}
 use Rattle.uu_schema.specs.declared.fault.StoreFault.{StoreFault}
 use Rattle.uu_schema.specs.declared.fault.StoreFault.TheVariants.{Memory, Store, Failed, Newer, Foreign as ForeignFault}
 use Rattle.sqlite.specs.Effect.{Database}
-use Rattle.uu_schema.specs.Schema.{schema_of}
 use Rattle.uu_schema.specs.declared.version.Version.{Version}
-use Rattle.uu_schema.specs.declared.version.Version.TheVariants.{First, Second, Third}
-use Rattle.uu_tables.specs.Tables.{tables_of}
+use Rattle.uu_schema.specs.declared.version.Version.TheVariants.{First, Second, Third, Fourth}
 use Rattle.sqlite.specs.Tree.{Trees}
 use Rattle.sqlite.specs.Schema.{Schema}
 use Rattle.uu_core.specs.State.{State}
 use Rattle.uu_schema.specs.Faults.{IsFaultOfThisCall}
 use Rattle.uu_schema.specs.Encoded.{HoldsStateAs, Encodes, EncodesAs}
 use Rattle.uu_adopt.specs.Becoming.{Becomes, CreatesTables, MigratesState}
-use Rattle.uu_adopt.specs.FoundTables.{HasNone, HasEarlier, IsEarlierVersion}
+use Rattle.uu_adopt.specs.FoundTables.{HasNone, HasEarlier}
 use Rattle.uu_adopt.specs.Version.{IsLater}
 use Rattle.uu_adopt.specs.Adoption.{IsOfNone, Inspects, IsInspected, IsRefused, IsSpared, LeavesNoMore, UnlessStore, UnlessFailed, IsAsBefore, StopsAs}
 use Rattle.uu_schema.proofs.Resting.{moved}
+use Rattle.uu_schema.specs.Earlier.{IsEarlierVersion, schema_of}
 use Rattle.uu_adopt.proofs.Creating.{none_found, all_found, last_found}
 use Rattle.uu_adopt.proofs.Becoming.{unless_weaker}
 use Rattle.uu_adopt.proofs.Settling.{Settles, leaves}
@@ -119,15 +118,16 @@ module _ (a b : db.State) where
   pub kept_as : (¬ HasNone a.now.schema → (HasEarlier a.now.schema → IsRefused (Ok tt)) → IsSpared a b (Ok tt)) → ((v : Version) → IsEarlierVersion v → MigratesState v a b (Ok tt)) → db.HasCleanDisk b → (v : Version) (s : State) → Rests a → EncodesAs v a.now s → Rests b × Encodes b.now s
   kept_as spared migrates clean First s rests enc = let it = (migrates First tt).ok clean rests enc.stands in (it.0, record { stands = it.1; holds = it.2.again s enc.holds })
   kept_as spared migrates clean Second s rests enc = let it = (migrates Second tt).ok clean rests enc.stands in (it.0, record { stands = it.1; holds = it.2.again s enc.holds })
-  kept_as spared migrates clean Third s rests enc =
-      let it = (spared (all_found Third a.now enc.stands) (λ earlier. absurd (last_found a.now enc.stands earlier))).same clean rests in (it.0, moved s a.now b.now it.1 enc)
+  kept_as spared migrates clean Third s rests enc = let it = (migrates Third tt).ok clean rests enc.stands in (it.0, record { stands = it.1; holds = it.2.again s enc.holds })
+  kept_as spared migrates clean Fourth s rests enc =
+      let it = (spared (all_found Fourth a.now enc.stands) (λ earlier. absurd (last_found a.now enc.stands earlier))).same clean rests in (it.0, moved s a.now b.now it.1 enc)
 
   pub read_as : (v : Version) → IsInspected v a b (Ok tt) → db.HasCleanDisk b → Stands (schema_of v) a.now → (s : State) × EncodesAs v a.now s
   read_as v inspected clean stands = let it = inspected.ok clean stands in (it.0, record { stands = stands; holds = it.1 })
 
   pub taken_as : (v : Version) (fault : StoreFault) → IsInspected v a b (Err fault) → db.HasCleanDisk b → (s : State) → EncodesAs v a.now s → (fault ≢ ForeignFault) × (fault ≢ Newer)
   taken_as v fault inspected clean s enc =
-      (λ is. (inspected.foreign clean enc.stands (ap Err is)).1 s enc.holds, λ is. not_later v a.now.trees (tables_of s) enc.holds.tables (inspected.newer clean enc.stands (ap Err is)))
+      (λ is. (inspected.foreign clean enc.stands (ap Err is)).1 s enc.holds, λ is. not_later v a.now.trees s enc.holds (inspected.newer clean enc.stands (ap Err is)))
 
   pub refused_as : (v : Version) (fault : StoreFault) → IsInspected v a b (Err fault) → db.HasCleanDisk b → Stands (schema_of v) a.now → fault ≡ ForeignFault → (IsLater a.now.trees → ⊥) × ((s : State) → EncodesAs v a.now s → ⊥)
   refused_as v fault inspected clean stands is = let it = inspected.foreign clean stands (ap Err is) in (it.0, λ s enc. it.1 s enc.holds)
@@ -143,7 +143,7 @@ module _ (a b : db.State) where
   pub stops_as : (r : Result (Unit {0}) StoreFault) → Settles a → db.HasCleanDisk b → Rests a → (¬ HasNone a.now.schema → (HasEarlier a.now.schema → IsRefused r) → IsSpared a b r) → ((v : Version) → IsEarlierVersion v → MigratesState v a b r) → CreatesTables a b r → StopsAs a b
   stops_as r settles clean rests spared migrates creates = record {
     some = λ some other trees may. stays trees ((spared some (λ first. absurd (other first))).stop clean trees may);
-    state = λ s enc trees may. leaves s a settles rests enc trees ((spared (all_found Third a.now enc.stands) (λ earlier. absurd (last_found a.now enc.stands earlier))).stop clean trees may);
+    state = λ s enc trees may. leaves s a settles rests enc trees ((spared (all_found Fourth a.now enc.stands) (λ earlier. absurd (last_found a.now enc.stands earlier))).stop clean trees may);
     earlier = λ v early stands trees may. elim ((migrates v early).stop clean rests stands trees may) [ inl was ↦ inl (stays trees was) | inr made ↦ inr made ];
     none = λ stands trees may. elim (creates.stop clean rests stands trees may) [ inl was ↦ inl (stays trees was) | inr made ↦ inr made ];
   }

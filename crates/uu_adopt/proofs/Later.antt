@@ -20,11 +20,12 @@ use Rattle.uu_schema.specs.Steps.{Stands}
 use Rattle.uu_schema.proofs.Rowids.{has_moved}
 use Rattle.uu_schema.proofs.Answers.{answer_of, answer_moved}
 use Rattle.uu_schema.specs.declared.version.Version.{Version}
-use Rattle.uu_schema.specs.Schema.{schema_of, spool}
-use Rattle.uu_schema.specs.declared.version.Version.TheVariants.{First, Second, Third}
+use Rattle.uu_schema.specs.Schema.{spool}
+use Rattle.uu_schema.specs.declared.version.Version.TheVariants.{First, Second, Third, Fourth}
 use Rattle.uu_schema.specs.Made.{version as ours}
-use Rattle.uu_schema.specs.Held.{HoldsAs}
-use Rattle.uu_tables.specs.Tables.{Tables}
+use Rattle.uu_schema.specs.Encoded.{HoldsStateAs}
+use Rattle.uu_schema.specs.Earlier.{schema_of}
+use Rattle.uu_core.specs.State.{State}
 use Rattle.uu_adopt.specs.Texts.{version_text}
 use Rattle.uu_adopt.specs.Version.{HasLater, ShowsLater, IsLater}
 use Rattle.uu_rows.proofs.Meanings.{at_places, is_first}
@@ -75,7 +76,7 @@ module _ (v : Version) (old new : db.State) (rows : List Row) where
       none (record { row = shown it.row; there = has_moved (map shown firsts) rows (shown it.row) (version_moved stands h) (mapped_has shown firsts it.row kept); shows = record { version = it.version; is = it.is; later = it.later } })
 
 -- a row of one of our versions names no later one
-never_later : (n next : ℕ) (it : Row) (version : ℤ) → n ≤ 3 → column it 2 ≡ Int version → pos ours <ℤ version → Has ((Int (pos 1) ∷ Null ∷ Int (pos n) ∷ Int (pos next) ∷ []) ∷ []) it → ⊥
+never_later : (n next : ℕ) (it : Row) (version : ℤ) → n ≤ 4 → column it 2 ≡ Int version → pos ours <ℤ version → Has ((Int (pos 1) ∷ Null ∷ Int (pos n) ∷ Int (pos next) ∷ []) ∷ []) it → ⊥
 never_later n next it version few is later (inl same) =
     let mine : Int version ≡ Int (pos n) = sym is ∙ ap (λ (r : Row). column r 2) same in
     let v : version ≡ pos n = cc in
@@ -83,7 +84,8 @@ never_later n next it version few is later (inl same) =
 never_later n next it version few is later (inr none) = none
 
 -- tables that are held have no such row
-pub not_later : (v : Version) (db : Trees) (t : Tables) → HoldsAs v db t → IsLater db → ⊥
-not_later First db t holds it = never_later 1 t.next it.row it.version (omega arith) it.is it.later (subst (λ rows. Has rows it.row) holds.spool it.there)
-not_later Second db t holds it = never_later 2 t.next it.row it.version (omega arith) it.is it.later (subst (λ rows. Has rows it.row) holds.spool it.there)
-not_later Third db t holds it = never_later 3 t.next it.row it.version (omega arith) it.is it.later (subst (λ rows. Has rows it.row) holds.spool it.there)
+pub not_later : (v : Version) (db : Trees) (s : State) → HoldsStateAs v db s → IsLater db → ⊥
+not_later First db s holds it = never_later 1 s.next it.row it.version (omega arith) it.is it.later (subst (λ rows. Has rows it.row) holds.tables.spool it.there)
+not_later Second db s holds it = never_later 2 s.next it.row it.version (omega arith) it.is it.later (subst (λ rows. Has rows it.row) holds.tables.spool it.there)
+not_later Third db s holds it = never_later 3 s.next it.row it.version (omega arith) it.is it.later (subst (λ rows. Has rows it.row) holds.tables.spool it.there)
+not_later Fourth db s holds it = never_later 4 s.next it.row it.version (omega arith) it.is it.later (subst (λ rows. Has rows it.row) holds.tables.spool it.there)

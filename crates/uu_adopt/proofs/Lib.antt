@@ -7,8 +7,7 @@ pub mod ReadTables
 pub mod Later
 pub mod Sound
 pub mod SpoolRow
-pub mod Sizes
-pub mod ReadPieces
+pub mod ReadBodies
 pub mod Settling
 pub mod Inspecting
 pub mod Becoming
@@ -17,4 +16,8 @@ pub mod Composing
 pub mod Adopting
 pub mod Rows
 pub mod Verdict
+pub mod EarlierVerdict
 pub mod Formats
+pub mod Assembled
+pub mod Renewing
+pub mod Joined

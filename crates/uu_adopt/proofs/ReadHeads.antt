@@ -19,18 +19,18 @@ use Rattle.uu_schema.proofs.Rows.{all_stay}
 use Rattle.uu_schema.proofs.Answers.{answer_of, answer_moved}
 use Rattle.uu_core.specs.declared.job.JobHead.{JobHead}
 use Rattle.uu_schema.specs.declared.version.Version.{Version}
-use Rattle.uu_schema.specs.Schema.{schema_of, jobs}
 use Rattle.uu_schema.specs.Keyed.{columns}
 use Rattle.uu_schema.specs.Held.{job_key, job_places}
 use Rattle.uu_schema.specs.Cells.{job_cells}
+use Rattle.uu_schema.specs.Earlier.{schema_of}
 use Rattle.uu_rows.specs.Readable.{IsTypedHead}
 use Rattle.uu_tables.specs.Order.{head_cmp}
 use Rattle.uu_rows.proofs.Meanings.{at_places, by_places}
 use Rattle.uu_rows.proofs.Back.{same_all, head_back, head_returns}
-use Rattle.uu_rows.proofs.InTables.{heads_are}
+use Rattle.uu_rows.proofs.InTables.{bare, heads_are}
 use Rattle.uu_adopt.specs.declared.integer.Integer.{Integer}
 use Rattle.uu_adopt.proofs.Texts.{heads_text}
-use Rattle.uu_adopt.specs.Reading.{id_cells, AreRowids, AreHeads, AreNumbersRising, FindsRows}
+use Rattle.uu_adopt.specs.Reading.{id_cells, AreRowids, AreHeads, AreNumbersRising, FindsRows, jobs_at}
 use Rattle.uu_adopt.proofs.Meanings.{heads_means}
 use Rattle.uu_adopt.proofs.Rowids.{id_shown, ids_apart}
 use Rattle.uu_adopt.proofs.TwoQuestions.{at_columns}
@@ -95,19 +95,19 @@ ids_of rows all it = record {
 
 module _ (v : Version) (a b : db.State) (rows : List Row) (stands : Stands (schema_of v) a.now) (h : db.Shown heads_text [] a b rows) where
   abbrev table : List Row
-  table = a.now.trees jobs.tree
+  table = a.now.trees (jobs_at v)
 
   moved : IsPermutation (map (columns job_places) table) rows
   moved =
       subst (λ l. IsPermutation l rows) (map_same _ (columns job_places) (at_columns job_places []) table)
       (subst (λ l. IsPermutation (map (λ r. eval_all (at_places job_places) ([] ∷ r ∷ [])) l) rows) (sym (all_stay table))
-      (answer_moved jobs.tree [] (at_places job_places) (by_places (0 ∷ [])) a.now.trees [] rows refl (answer_of (schema_of v) heads_text _ _ [] a b (heads_means v) stands.schema rows h)))
+      (answer_moved (jobs_at v) [] (at_places job_places) (by_places (0 ∷ [])) a.now.trees [] rows (bare a.now.trees (jobs_at v)) (answer_of (schema_of v) heads_text _ _ [] a b (heads_means v) stands.schema rows h)))
 
   ids_moved : IsPermutation (map id_shown table) (map id_shown rows)
   ids_moved = subst (λ l. IsPermutation l (map id_shown rows)) (map-map id_shown (columns job_places) table) (IsPermutation-map id_shown _ _ moved)
 
   rows_only : (xs : List JobHead) → IsPermutation (map job_cells xs) (map (columns job_places) table) → IsAscending (λ x y. head_cmp x y ≡ Less) xs → rows ≡ map job_cells xs
-  rows_only xs held rise = heads_are (schema_of v) a b rows stands.schema heads_text _ [] [] h (heads_means v) (λ r. refl) xs held rise (λ x. true) (λ x. refl) ∙ ap (map job_cells) (filter_all xs)
+  rows_only xs held rise = heads_are (schema_of v) a b rows stands.schema heads_text _ [] [] h (jobs_at v) (heads_means v) (λ r. refl) xs held rise (λ x. true) (λ x. refl) ∙ ap (map job_cells) (filter_all xs)
 
   number_less : (x y : JobHead) → head_cmp x y ≡ Less → x.number < y.number
   number_less x y h = grind (arith)

@@ -10,21 +10,27 @@ use Rattle.uu_times.specs.System.{IsRetry}
 use Rattle.uu_core.specs.State.{State, IsWellFormed}
 use Rattle.uu_core.specs.declared.job.JobHead.{JobHead}
 use Rattle.uu_tables.specs.declared.rows.SystemColumns.{SystemColumns}
-use Rattle.uu_tables.specs.declared.rows.LineColumns.{LineColumns}
-use Rattle.uu_tables.specs.declared.rows.RangeColumns.{RangeColumns}
+use Rattle.uu_tables.specs.declared.earlier.LineColumns.{LineColumns}
+use Rattle.uu_tables.specs.declared.earlier.RangeColumns.{RangeColumns}
 use Rattle.uu_tables.specs.declared.rows.EntryColumns.{EntryColumns}
-use Rattle.uu_tables.specs.declared.rows.WaitColumns.{WaitColumns}
+use Rattle.uu_tables.specs.declared.earlier.WaitColumns.{WaitColumns}
 use Rattle.uu_tables.specs.declared.rows.LinkColumns.{LinkColumns}
 use Rattle.uu_tables.specs.declared.rows.TakenColumns.{TakenColumns}
-use Rattle.uu_tables.specs.Tables.{Piece, tables_of, size_of}
-use Rattle.uu_check.specs.Order.{AreInOrder as AreTablesInOrder}
-use Rattle.uu_check.specs.Readable.{AreReadable, IsSystemRow, IsLineRow, IsRangeRow, IsPieceRow, IsEntryRow, IsWaitRow, IsLinkRow, IsTakenRow}
-use Rattle.uu_check.proofs.Rising.{in_order}
-use Rattle.uu_check.proofs.Reading.{readable}
+use Rattle.uu_tables.specs.declared.rows.Body.{Body}
+use Rattle.uu_tables.specs.declared.earlier.BareSystem.{BareSystem}
+use Rattle.uu_tables.specs.declared.earlier.Piece.{Piece}
+use Rattle.uu_tables.specs.Tables.{tables_of, size_of}
+use Rattle.uu_tables.specs.Earlier.{earlier_tables_of}
+use Rattle.uu_check.specs.Order.{AreInOrder as AreTablesInOrder, AreEarlierInOrder}
+use Rattle.uu_check.specs.Readable.{AreReadable, AreEarlierReadable, IsSystemRow, IsBodyRow, IsEntryRow, IsLinkRow, IsTakenRow, IsBareRow, IsLineRow, IsRangeRow, IsPieceRow, IsWaitRow}
+use Rattle.uu_check.proofs.WholeState.{in_order, readable}
+use Rattle.uu_check.proofs.Rising.{in_order as earlier_in_order}
+use Rattle.uu_check.proofs.Reading.{readable as earlier_readable}
 use Rattle.uu_schema.specs.Keyed.{Keyed}
-use Rattle.uu_schema.specs.Held.{system_key, line_key, range_key, job_key, piece_key, entry_key, wait_key, link_key, taken_key}
-use Rattle.uu_rows.specs.Readable.{IsSmall, IsTypedSystem, IsTypedLine, IsTypedRange, IsTypedHead, IsTypedSize, IsTypedEntry, IsTypedWait, IsTypedLink, IsTypedTaken}
-use Rattle.uu_tables.specs.Order.{system_cmp, line_cmp, range_cmp, head_cmp, piece_cmp, entry_cmp, wait_cmp, link_cmp, taken_cmp}
+use Rattle.uu_schema.specs.Held.{system_key, job_key, body_key, entry_key, link_key, taken_key}
+use Rattle.uu_schema.specs.HeldEarlier.{bare_key, line_key, range_key, piece_key, wait_key}
+use Rattle.uu_rows.specs.Readable.{IsSmall, IsTypedSystem, IsTypedHead, IsTypedSize, IsTypedEntry, IsTypedLink, IsTypedTaken, IsTypedBare, IsTypedLine, IsTypedRange, IsTypedPiece, IsTypedWait}
+use Rattle.uu_tables.specs.Order.{system_cmp, head_cmp, body_cmp, entry_cmp, link_cmp, taken_cmp, bare_system_cmp, line_cmp, range_cmp, piece_cmp, wait_cmp}
 use Rattle.uu_adopt.specs.Reading.{AreInOrder, AreRows}
 use Rattle.uu_rows.proofs.Heads.{heads_good}
 use Rattle.uu_rows.proofs.InOrder.{ascending_pairs}
@@ -33,6 +39,16 @@ use Rattle.uu_rows.proofs.InOrder.{ascending_pairs}
 
 system_read : (c : SystemColumns) → IsSystemRow c → IsTypedSystem c
 system_read c h = record {
+  def = (h.def.name, h.def.limits, h.def.lines);
+  last = (let k = h.last in omega (arith, k));
+  failures = (let k = h.failures in omega (arith, k));
+  wait = (let k = h.wait in omega (arith, k));
+  outcome = (let k = h.outcome in omega (arith, k));
+  why = h.why;
+}
+
+bare_read : (c : BareSystem) → IsBareRow c → IsTypedBare c
+bare_read c h = record {
   name = h.name;
   max_retries = (let k = h.max_retries in omega (arith, k));
   last = (let k = h.last in omega (arith, k));
@@ -52,8 +68,11 @@ line_read l h = record { system = h.system; place = (let k = h.place in omega (a
 range_read : (r : RangeColumns) → IsRangeRow r → IsTypedRange r
 range_read r h = record { system = h.system; place = (let k = h.place in omega (arith, k)); low = (let k = h.low in omega (arith, k)); high = (let k = h.high in omega (arith, k)) }
 
-size_read : (p : Piece) → IsPieceRow p → IsTypedSize (size_of p)
-size_read p h = record { job = (let k = h.job in omega (arith, k)); place = (let k = h.place in omega (arith, k)); length = (let k = h.length in omega (arith, k)) }
+size_read : (b : Body) → IsBodyRow b → IsTypedSize (size_of b)
+size_read b h = record { job = (let k = h.job in omega (arith, k)); length = (let k = h.length in omega (arith, k)) }
+
+piece_read : (p : Piece) → IsPieceRow p → IsTypedPiece p
+piece_read p h = record { job = (let k = h.job in omega (arith, k)); place = (let k = h.place in omega (arith, k)) }
 
 entry_read : (e : EntryColumns) → IsEntryRow e → IsTypedEntry e
 entry_read e h = record { host = h.host }
@@ -73,7 +92,13 @@ less_not_equal : (r : Ordering) → r ≡ Less → r ≡ Equal → ⊥
 less_not_equal r h k = absurd (cc)
 
 pub systems_apart : (a b : SystemColumns) → system_cmp a b ≡ Less → system_key a ≡ system_key b → ⊥
-systems_apart a b h e = less_not_equal _ h (rw e (tied_itself nat_list_cmp_total b.name))
+systems_apart a b h e = less_not_equal _ h (rw e (tied_itself nat_list_cmp_total b.def.name))
+
+pub bare_apart : (a b : BareSystem) → bare_system_cmp a b ≡ Less → bare_key a ≡ bare_key b → ⊥
+bare_apart a b h e = less_not_equal _ h (rw e (tied_itself nat_list_cmp_total b.name))
+
+pub bodies_apart : (a b : Body) → body_cmp a b ≡ Less → body_key a ≡ body_key b → ⊥
+bodies_apart a b h e = less_not_equal _ h (rw e (tied_itself nat_cmp_total b.job))
 
 pub lines_apart : (a b : LineColumns) → line_cmp a b ≡ Less → line_key a ≡ line_key b → ⊥
 lines_apart a b h e =
@@ -119,6 +144,12 @@ keyed key cells places cmp xs rows apart rise h = record { same = h.same; number
 
 -- ---- a state's tables
 
+below : (a b : JobHead) → a.number < b.number → head_cmp a b ≡ Less
+below a b h = search (arith, h)
+
+body_below : (a b : Body) → a.job < b.job → body_cmp a b ≡ Less
+body_below a b h = search (arith, h)
+
 module _ (s : State) (good : IsWellFormed s) where
   order : AreTablesInOrder (tables_of s)
   order = in_order s good
@@ -132,32 +163,43 @@ module _ (s : State) (good : IsWellFormed s) where
   pub systems_in_order : AreInOrder IsTypedSystem system_cmp (tables_of s).systems
   systems_in_order = record { readable = all_weaker _ _ system_read _ fits.systems; rise = ascending_pairs _ _ order.systems }
 
-  pub lines_in_order : AreInOrder IsTypedLine line_cmp (tables_of s).lines
-  lines_in_order = record { readable = all_weaker _ _ line_read _ fits.lines; rise = ascending_pairs _ _ order.lines }
-
-  pub ranges_in_order : AreInOrder IsTypedRange range_cmp (tables_of s).ranges
-  ranges_in_order = record { readable = all_weaker _ _ range_read _ fits.ranges; rise = ascending_pairs _ _ order.ranges }
-
-  below : (a b : JobHead) → a.number < b.number → head_cmp a b ≡ Less
-  below a b h = search (arith, h)
-
   pub heads_in_order : AreInOrder IsTypedHead head_cmp (tables_of s).jobs
   heads_in_order = record { readable = heads_good s good; rise = ascending_weaker _ _ below _ (ascending_pairs _ _ order.jobs) }
 
-  pub sizes_good : AllByRecursion (λ p. IsTypedSize (size_of p)) (tables_of s).pieces
-  sizes_good = all_weaker _ _ size_read _ fits.pieces
+  pub sizes_good : AllByRecursion (λ b. IsTypedSize (size_of b)) (tables_of s).bodies
+  sizes_good = all_weaker _ _ size_read _ fits.bodies
 
-  pub pieces_in_order : IsAscending (λ a b. piece_cmp a b ≡ Less) (tables_of s).pieces
-  pieces_in_order = ascending_pairs _ _ order.pieces
+  pub bodies_in_order : IsAscending (λ a b. body_cmp a b ≡ Less) (tables_of s).bodies
+  bodies_in_order = ascending_weaker _ _ body_below _ (ascending_pairs _ _ order.bodies)
 
   pub entries_in_order : AreInOrder IsTypedEntry entry_cmp (tables_of s).entries
   entries_in_order = record { readable = all_weaker _ _ entry_read _ fits.entries; rise = ascending_pairs _ _ order.entries }
-
-  pub waits_in_order : AreInOrder IsTypedWait wait_cmp (tables_of s).success_waits
-  waits_in_order = record { readable = all_weaker _ _ wait_read _ fits.success_waits; rise = ascending_pairs _ _ order.success_waits }
 
   pub links_in_order : AreInOrder IsTypedLink link_cmp (tables_of s).links
   links_in_order = record { readable = all_weaker _ _ link_read _ fits.links; rise = ascending_pairs _ _ order.links }
 
   pub taken_in_order : AreInOrder IsTypedTaken taken_cmp (tables_of s).taken
   taken_in_order = record { readable = all_weaker _ _ taken_read _ fits.taken; rise = ascending_pairs _ _ order.taken }
+
+  -- ---- in earlier versions
+
+  earlier_order : AreEarlierInOrder (earlier_tables_of s)
+  earlier_order = earlier_in_order s good
+
+  earlier_fits : AreEarlierReadable (earlier_tables_of s)
+  earlier_fits = earlier_readable s good
+
+  pub bare_in_order : AreInOrder IsTypedBare bare_system_cmp (earlier_tables_of s).systems
+  bare_in_order = record { readable = all_weaker _ _ bare_read _ earlier_fits.systems; rise = ascending_pairs _ _ earlier_order.systems }
+
+  pub lines_in_order : AreInOrder IsTypedLine line_cmp (earlier_tables_of s).lines
+  lines_in_order = record { readable = all_weaker _ _ line_read _ earlier_fits.lines; rise = ascending_pairs _ _ earlier_order.lines }
+
+  pub ranges_in_order : AreInOrder IsTypedRange range_cmp (earlier_tables_of s).ranges
+  ranges_in_order = record { readable = all_weaker _ _ range_read _ earlier_fits.ranges; rise = ascending_pairs _ _ earlier_order.ranges }
+
+  pub pieces_in_order : AreInOrder IsTypedPiece piece_cmp (earlier_tables_of s).pieces
+  pieces_in_order = record { readable = all_weaker _ _ piece_read _ earlier_fits.pieces; rise = ascending_pairs _ _ earlier_order.pieces }
+
+  pub waits_in_order : AreInOrder IsTypedWait wait_cmp (earlier_tables_of s).success_waits
+  waits_in_order = record { readable = all_weaker _ _ wait_read _ earlier_fits.success_waits; rise = ascending_pairs _ _ earlier_order.success_waits }

@@ -1,5 +1,5 @@
 -- What a sound database says of its rows: each has a value of the right type in each column.
-use Rattle.std.proofs.Common.{Option, Some, None, ◌≡◌, ℕ, zero, suc, ◌+◌, ◌<◌, ◌≤◌, true, false, not, List, [], ◌∷◌, length, drop, refl, ◌∙◌, arith}
+use Rattle.std.proofs.Common.{Option, Some, ◌≡◌, ℕ, zero, suc, ◌+◌, ◌<◌, ◌≤◌, true, false, not, List, [], ◌∷◌, length, drop, refl, ◌∙◌, arith}
 use Rattle.std.specs.List.{AllByRecursion}
 use Rattle.std.proofs.lemmas.Bool.{and_parts}
 use Rattle.sqlite.specs.declared.types.Value.{Value}
@@ -9,15 +9,16 @@ use Rattle.sqlite.specs.Tree.{Trees}
 use Rattle.sqlite_catalog.specs.Listing.{IsSound}
 use Rattle.sqlite_schema.specs.Rules.{passes, are_typed, is_of}
 use Rattle.sqlite_schema.specs.declared.schema.Column.{Column}
-use Rattle.sqlite.specs.Kind.TheVariants.{Integer, Blob as Bytes}
+use Rattle.sqlite.specs.Kind.TheVariants.{Blob as Bytes}
 use Rattle.sqlite_schema.specs.declared.schema.Constraint.TheVariants.{Datatype, NotNull}
 use Rattle.sqlite_sql.specs.Ops.{is_null}
 use Rattle.sqlite_keyed.proofs.ListLemmas.{all_both}
 use Rattle.sqlite.specs.Schema.{Schema}
 use Rattle.uu_names.proofs.Basics.{and_second}
 use Rattle.uu_schema.specs.declared.version.Version.{Version}
-use Rattle.uu_schema.specs.declared.version.Version.TheVariants.{First, Second, Third}
-use Rattle.uu_schema.specs.Schema.{spool_schema, first_schema, second_schema, schema_of, spool, pieces}
+use Rattle.uu_schema.specs.declared.version.Version.TheVariants.{First, Second, Third, Fourth}
+use Rattle.uu_schema.specs.Schema.{spool_schema, spool, bodies}
+use Rattle.uu_schema.specs.Earlier.{first_schema, second_schema, third_schema, schema_of}
 
 -- ---- rows of so many values
 
@@ -76,9 +77,10 @@ spool_row_is schema r db present typed =
 pub spool_rows_are : (v : Version) (db : Trees) → IsSound (schema_of v) db → AllByRecursion IsSpoolRow (db spool.tree)
 spool_rows_are First db sound = all_both _ _ IsSpoolRow (λ r. spool_row_is first_schema r db) (db spool.tree) (sound.obeys.rules NotNull).0 (sound.obeys.rules Datatype).0
 spool_rows_are Second db sound = all_both _ _ IsSpoolRow (λ r. spool_row_is second_schema r db) (db spool.tree) (sound.obeys.rules NotNull).0 (sound.obeys.rules Datatype).0
-spool_rows_are Third db sound = all_both _ _ IsSpoolRow (λ r. spool_row_is spool_schema r db) (db spool.tree) (sound.obeys.rules NotNull).0 (sound.obeys.rules Datatype).0
+spool_rows_are Third db sound = all_both _ _ IsSpoolRow (λ r. spool_row_is third_schema r db) (db spool.tree) (sound.obeys.rules NotNull).0 (sound.obeys.rules Datatype).0
+spool_rows_are Fourth db sound = all_both _ _ IsSpoolRow (λ r. spool_row_is spool_schema r db) (db spool.tree) (sound.obeys.rules NotNull).0 (sound.obeys.rules Datatype).0
 
--- ---- the table `pieces`
+-- ---- the table `bodies`
 
 bytes_in : (v : Value) → is_null v ≡ false → is_of Bytes v ≡ true → (b : List ℕ) × (v ≡ Blob b)
 bytes_in Null some h = absurd (cc)
@@ -90,24 +92,19 @@ bytes_in (Blob b) some h = (b, refl)
 -- its bytes are bytes
 pub record HasBytes (r : Row) : Type 0 where
   pub bytes : List ℕ
-  pub is : column r 3 ≡ Blob bytes
+  pub is : column r 2 ≡ Blob bytes
 
-piece_row_is : (schema : Schema) (r : Row) (db : Trees) → passes NotNull schema db pieces r ≡ true → passes Datatype schema db pieces r ≡ true → HasBytes r
-piece_row_is schema r db present typed =
-    let h1 = and_second (not (is_null (column r 1))) _ present in
-    let h2 = and_second (not (is_null (column r 2))) _ h1 in
-    let some = full _ (and_parts (not (is_null (column r 3))) true h2).0 in
-    go r (there r 3 some) some (and_parts (are_typed None 0 pieces.columns (drop 1 r)) _ typed).0
+body_row_is : (r : Row) (db : Trees) → passes NotNull spool_schema db bodies r ≡ true → passes Datatype spool_schema db bodies r ≡ true → HasBytes r
+body_row_is r db present typed =
+    let some = full _ (and_parts (not (is_null (column r 2))) true present).0 in
+    go r (there r 2 some) some (and_parts (are_typed (Some 0) 0 bodies.columns (drop 1 r)) _ typed).0
   where
-    go : (r : Row) → 3 < length r → is_null (column r 3) ≡ false → are_typed None 0 pieces.columns (drop 1 r) ≡ true → HasBytes r
-    go (a ∷ v ∷ w ∷ b ∷ vs) long some h =
-        let k1 = and_second (is_of Integer v) _ h in
-        let k2 = and_second (is_of Integer w) _ k1 in
-        let it = bytes_in b some (and_parts (is_of Bytes b) (are_typed None 3 [] vs) k2).0 in
+    go : (r : Row) → 2 < length r → is_null (column r 2) ≡ false → are_typed (Some 0) 0 bodies.columns (drop 1 r) ≡ true → HasBytes r
+    go (a ∷ v ∷ b ∷ vs) long some h =
+        let rest = and_second (is_null v) _ h in
+        let it = bytes_in b some (and_parts (is_of Bytes b) (are_typed (Some 0) 2 [] vs) rest).0 in
         record { bytes = it.0; is = it.1 }
     go r long some h = absurd (omega (arith, long))
 
-pub piece_rows_are : (v : Version) (db : Trees) → IsSound (schema_of v) db → AllByRecursion HasBytes (db pieces.tree)
-piece_rows_are First db sound = all_both _ _ HasBytes (λ r. piece_row_is first_schema r db) (db pieces.tree) (sound.obeys.rules NotNull).1.1.1.1.1.0 (sound.obeys.rules Datatype).1.1.1.1.1.0
-piece_rows_are Second db sound = all_both _ _ HasBytes (λ r. piece_row_is second_schema r db) (db pieces.tree) (sound.obeys.rules NotNull).1.1.1.1.1.0 (sound.obeys.rules Datatype).1.1.1.1.1.0
-piece_rows_are Third db sound = all_both _ _ HasBytes (λ r. piece_row_is spool_schema r db) (db pieces.tree) (sound.obeys.rules NotNull).1.1.1.1.1.0 (sound.obeys.rules Datatype).1.1.1.1.1.0
+pub body_rows_are : (db : Trees) → IsSound spool_schema db → AllByRecursion HasBytes (db bodies.tree)
+body_rows_are db sound = all_both _ _ HasBytes (λ r. body_row_is r db) (db bodies.tree) (sound.obeys.rules NotNull).1.1.1.0 (sound.obeys.rules Datatype).1.1.1.0

@@ -13,8 +13,9 @@ use Rattle.uu_schema.specs.Steps.{Stands}
 use Rattle.uu_schema.proofs.Rows.{all_stay}
 use Rattle.uu_schema.proofs.Answers.{answer_of, answer_moved}
 use Rattle.uu_schema.specs.declared.version.Version.{Version}
-use Rattle.uu_schema.specs.Schema.{schema_of, spool}
+use Rattle.uu_schema.specs.Schema.{spool}
 use Rattle.uu_schema.specs.Made.{spool_row_of}
+use Rattle.uu_schema.specs.Earlier.{schema_of}
 use Rattle.uu_rows.specs.Readable.{IsSmall}
 use Rattle.uu_adopt.specs.Texts.{spool_text}
 use Rattle.uu_adopt.specs.Reading.{spool_cells}

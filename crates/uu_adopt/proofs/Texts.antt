@@ -6,13 +6,12 @@ use Rattle.std.specs.Prelude.{List, ℕ, codes}
 abbrev pub heads_text : List ℕ
 heads_text = codes "SELECT number, system, rank, user, kind, queued, first_word, second_word, size FROM jobs ORDER BY number"
 
--- the number of bytes of each piece
+-- the number of bytes of each body
 abbrev pub sizes_text : List ℕ
-sizes_text = codes "SELECT job, place, length(bytes) FROM pieces ORDER BY job, place"
+sizes_text = codes "SELECT job, length(bytes) FROM bodies ORDER BY job"
 
--- the same with the rowid, in the order of the rowids
-abbrev pub numbered_sizes_text : List ℕ
-numbered_sizes_text = codes "SELECT rowid, job, place, length(bytes) FROM pieces ORDER BY rowid"
+abbrev pub pieces_text : List ℕ
+pieces_text = codes "SELECT job, place, bytes FROM pieces ORDER BY job, place"
 
 abbrev pub entries_text : List ℕ
 entries_text = codes "SELECT host, bytes FROM entries ORDER BY host"

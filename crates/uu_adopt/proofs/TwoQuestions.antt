@@ -24,9 +24,9 @@ use Rattle.uu_schema.proofs.Questions.{spared_as, spared_then}
 use Rattle.uu_schema.proofs.Asks.{ordered}
 use Rattle.uu_schema.proofs.Rows.{all_stay}
 use Rattle.uu_schema.proofs.Answers.{answer_moved}
-use Rattle.uu_schema.specs.Schema.{schema_of}
 use Rattle.uu_schema.specs.declared.version.Version.{Version}
 use Rattle.uu_schema.specs.Keyed.{Keyed, columns}
+use Rattle.uu_schema.specs.Earlier.{schema_of}
 use Rattle.uu_rows.specs.Shows.{ShowsRows}
 use Rattle.uu_adopt.specs.Reading.{FindsRows, ReadsFrom, IsRead}
 use Rattle.uu_rows.proofs.Meanings.{at_places}

@@ -6,7 +6,7 @@ use Rattle.sqlite.specs.Schema.{Schema}
 use Rattle.sqlite_catalog.specs.Listing.{IsSound}
 use Rattle.uu_schema.specs.Steps.{Stands, Rests, StaysUnclean}
 use Rattle.uu_core.specs.State.{State, empty}
-use Rattle.uu_schema.specs.Schema.{spool_schema, no_schema, schema_of}
+use Rattle.uu_schema.specs.Schema.{spool_schema, no_schema}
 use Rattle.uu_schema.specs.declared.version.Version.{Version}
 use Rattle.uu_schema.specs.declared.fault.StoreFault.{StoreFault}
 use Rattle.uu_schema.specs.declared.fault.StoreFault.TheVariants.{Store, Newer, Foreign as ForeignFault}
@@ -14,7 +14,8 @@ use Rattle.uu_adopt.specs.Version.{IsLater}
 use Rattle.uu_adopt.specs.declared.inspection.Finding.{Finding}
 use Rattle.uu_adopt.specs.declared.inspection.Finding.TheVariants.{Spool, Foreign, Later}
 use Rattle.uu_schema.specs.Encoded.{Encodes, HoldsState, HoldsStateAs, Leaves, Migrated}
-use Rattle.uu_adopt.specs.FoundTables.{HasNone, HasEarlier, IsEarlierVersion}
+use Rattle.uu_schema.specs.Earlier.{IsEarlierVersion, schema_of}
+use Rattle.uu_adopt.specs.FoundTables.{HasNone, HasEarlier}
 use Rattle.uu_adopt.specs.Becoming.{Becomes, CreatesTables, MigratesState}
 
 -- these are the rows of no state in the tables of this version

@@ -7,11 +7,12 @@ use Rattle.sqlite.specs.State as db
 use Rattle.sqlite_catalog.specs.Listing.{IsSound}
 use Rattle.uu_core.specs.State.{empty}
 use Rattle.uu_schema.specs.Steps.{Stands, Rests}
-use Rattle.uu_schema.specs.Schema.{spool_schema, schema_of, no_schema}
+use Rattle.uu_schema.specs.Schema.{spool_schema, no_schema}
 use Rattle.uu_schema.specs.Encoded.{HoldsState, Migrated}
 use Rattle.uu_schema.specs.declared.fault.StoreFault.{StoreFault}
 use Rattle.uu_schema.specs.declared.fault.StoreFault.TheVariants.{Memory}
 use Rattle.uu_schema.specs.declared.version.Version.{Version}
+use Rattle.uu_schema.specs.Earlier.{schema_of}
 
 -- A database becomes one of another schema by a step of its trees, whole or not at all. A stop
 -- leaves that, or what it could leave before.

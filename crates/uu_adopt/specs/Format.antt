@@ -8,9 +8,10 @@ use Rattle.sqlite.specs.Table.{Table}
 use Rattle.sqlite_rules.specs.Lists.{Has}
 use Rattle.sqlite_schema.specs.Names.{same_name}
 use Rattle.sqlite_schema.specs.declared.schema.Column.{Column}
-use Rattle.uu_schema.specs.Schema.{spool_schema, schema_of, spool, success_waits, links, taken}
+use Rattle.uu_schema.specs.Schema.{spool_schema, spool, bodies, links, taken}
+use Rattle.uu_schema.specs.Earlier.{schema_of, lines, ranges, pieces, success_waits}
 use Rattle.uu_schema.specs.declared.version.Version.{Version}
-use Rattle.uu_schema.specs.declared.version.Version.TheVariants.{First, Second, Third}
+use Rattle.uu_schema.specs.declared.version.Version.TheVariants.{First, Second, Third, Fourth}
 
 -- no table has this name
 abbrev pub IsNameFree : Schema → List ℕ → Type 0
@@ -30,21 +31,26 @@ pub record HasTable (schema : Schema) (name : List ℕ) (columns : List (List �
 abbrev pub HasTableOf : Schema → Table → Type 0
 HasTableOf schema table = HasTable schema table.name (map (λ (column : Column). column.name) table.columns)
 
--- none of the names of the spool's tables is taken
+-- the tables that only earlier versions have
+abbrev pub old_tables : List Table
+old_tables = lines ∷ ranges ∷ pieces ∷ success_waits ∷ []
+
+-- no name of a version's tables is taken
 abbrev pub HasNoName : Schema → Type 0
-HasNoName schema = AllByRecursion (λ (table : Table). IsNameFree schema table.name) spool_schema.tables
+HasNoName schema = AllByRecursion (λ (table : Table). IsNameFree schema table.name) spool_schema.tables × AllByRecursion (λ (table : Table). IsNameFree schema table.name) old_tables
 
--- the tables that were added after a version
-abbrev pub later_tables : Version → List Table
-later_tables First = success_waits ∷ links ∷ taken ∷ []
-later_tables Second = links ∷ taken ∷ []
-later_tables Third = []
+-- the tables of other versions whose names a version hasn't
+abbrev pub other_tables : Version → List Table
+other_tables First = bodies ∷ success_waits ∷ links ∷ taken ∷ []
+other_tables Second = bodies ∷ links ∷ taken ∷ []
+other_tables Third = bodies ∷ []
+other_tables Fourth = old_tables
 
--- every table of a version is there with its columns, and no table has the name of one that was
--- added later
+-- every table of a version is there with its columns, and no table has the name of one that only
+-- other versions have
 pub record HasTablesOf (v : Version) (schema : Schema) : Type 0 where
   pub all : AllByRecursion (HasTableOf schema) (schema_of v).tables
-  pub none_later : AllByRecursion (λ (table : Table). IsNameFree schema table.name) (later_tables v)
+  pub none_other : AllByRecursion (λ (table : Table). IsNameFree schema table.name) (other_tables v)
 
 -- the table `spool` has the columns that say its version
 abbrev pub TellsVersion : Schema → Type 0

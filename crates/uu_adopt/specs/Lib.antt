@@ -6,3 +6,5 @@ pub mod Format
 pub mod Becoming
 pub mod Adoption
 pub mod AllRows
+pub mod Assembly
+pub mod Renewal

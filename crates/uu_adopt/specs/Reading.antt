@@ -1,5 +1,5 @@
 -- The answers to the questions on every row of a table, when a database is inspected.
-use Rattle.std.specs.Prelude.{◌≡◌, ◌≢◌, ◌<◌, ◌<ℤ◌, ℕ, pos, nat_lt, int_lt, Bool, true, false, ◌==◌, ◌&&◌, ◌||◌, List, [], ◌∷◌, Vec, Option, map, Result, IfOk, OnOk, IfSome, MatchOption, ⊤}
+use Rattle.std.specs.Prelude.{◌≡◌, ◌≢◌, ◌<◌, ◌<ℤ◌, ℕ, pos, Bool, true, false, List, [], ◌∷◌, Vec, Option, map, Result, IfOk, OnOk, IfSome, MatchOption, ⊤}
 use Rattle.std.specs.declared.alloc.Global.{Global}
 use Rattle.std.specs.declared.cmp.Ordering.{Ordering}
 use Rattle.std.specs.declared.cmp.Ordering.TheVariants.{Less}
@@ -15,27 +15,31 @@ use Rattle.sqlite.specs.Store.{Ghosts}
 use Rattle.uu_schema.specs.Steps.{Stands, StaysIdle}
 use Rattle.uu_schema.specs.Spares.{Spares}
 use Rattle.uu_schema.specs.Rowids.{AreNumbered, OnceEach}
-use Rattle.uu_tables.specs.declared.rows.PieceSize.{PieceSize}
-use Rattle.uu_tables.specs.Tables.{Piece, size_of}
-use Rattle.uu_schema.specs.Schema.{schema_of, spool, systems, lines, ranges, jobs, pieces, entries, success_waits, links, taken}
+use Rattle.uu_tables.specs.declared.rows.Body.{Body}
+use Rattle.uu_tables.specs.declared.rows.BodySize.{BodySize}
+use Rattle.uu_tables.specs.declared.earlier.BareSystem.{BareSystem}
+use Rattle.uu_tables.specs.declared.earlier.Piece.{Piece}
+use Rattle.uu_tables.specs.Tables.{size_of}
+use Rattle.uu_schema.specs.Schema.{spool, systems, jobs, bodies, entries, links, taken}
 use Rattle.uu_schema.specs.declared.version.Version.{Version}
-use Rattle.uu_schema.specs.declared.version.Version.TheVariants.{First, Second, Third}
+use Rattle.uu_schema.specs.declared.version.Version.TheVariants.{First, Second, Third, Fourth}
 use Rattle.uu_tables.specs.declared.rows.SystemColumns.{SystemColumns}
-use Rattle.uu_tables.specs.declared.rows.LineColumns.{LineColumns}
-use Rattle.uu_tables.specs.declared.rows.RangeColumns.{RangeColumns}
+use Rattle.uu_tables.specs.declared.earlier.LineColumns.{LineColumns}
+use Rattle.uu_tables.specs.declared.earlier.RangeColumns.{RangeColumns}
 use Rattle.uu_tables.specs.declared.rows.EntryColumns.{EntryColumns}
-use Rattle.uu_tables.specs.declared.rows.WaitColumns.{WaitColumns}
+use Rattle.uu_tables.specs.declared.earlier.WaitColumns.{WaitColumns}
 use Rattle.uu_tables.specs.declared.rows.LinkColumns.{LinkColumns}
 use Rattle.uu_tables.specs.declared.rows.TakenColumns.{TakenColumns}
 use Rattle.uu_schema.specs.Made.{version_number, spool_row_of}
-use Rattle.uu_schema.specs.Held.{system_key, line_key, range_key, job_key, piece_key, entry_key, wait_key, link_key, taken_key, system_places, line_places, range_places, job_places, piece_places, entry_places, wait_places, link_places, taken_places}
+use Rattle.uu_schema.specs.Held.{system_key, job_key, body_key, entry_key, link_key, taken_key, system_places, job_places, body_places, entry_places, link_places, taken_places}
+use Rattle.uu_schema.specs.HeldEarlier.{bare_key, line_key, range_key, piece_key, wait_key, line_places, range_places, piece_places, wait_places}
 use Rattle.uu_core.specs.declared.job.JobHead.{JobHead}
-use Rattle.uu_schema.specs.Cells.{system_cells, line_cells, range_cells, job_cells, piece_cells, entry_cells, wait_cells, link_cells, taken_cells}
-use Rattle.uu_rows.specs.Readable.{IsSmall, IsTypedSystem, IsTypedLine, IsTypedRange, IsTypedHead, IsTypedSize, IsTypedEntry, IsTypedWait, IsTypedLink, IsTypedTaken, size_cells}
-use Rattle.uu_tables.specs.Order.{system_cmp, line_cmp, range_cmp, head_cmp, piece_cmp, size_cmp, entry_cmp, wait_cmp, link_cmp, taken_cmp}
+use Rattle.uu_schema.specs.Cells.{system_cells, job_cells, body_cells, entry_cells, link_cells, taken_cells, bare_cells, line_cells, range_cells, wait_cells, piece_cells}
+use Rattle.uu_rows.specs.Readable.{IsSmall, IsTypedSystem, IsTypedHead, IsTypedSize, IsTypedEntry, IsTypedLink, IsTypedTaken, IsTypedBare, IsTypedLine, IsTypedRange, IsTypedWait, IsTypedPiece, size_cells}
+use Rattle.uu_tables.specs.Order.{system_cmp, head_cmp, body_cmp, entry_cmp, link_cmp, taken_cmp, bare_system_cmp, line_cmp, range_cmp, wait_cmp, piece_cmp}
 use Rattle.uu_schema.specs.Keyed.{Keyed, columns}
+use Rattle.uu_schema.specs.Earlier.{schema_of, old_systems, lines, ranges, old_jobs, pieces, old_entries, success_waits, old_links, old_taken}
 use Rattle.uu_adopt.specs.declared.integer.Integer.{Integer}
-use Rattle.uu_adopt.specs.declared.pieces.NumberedSize.{NumberedSize}
 
 -- ---- rowids that rise
 
@@ -109,37 +113,61 @@ pub record AreHeads (rows : List Row) (all : List JobHead) : Type 0 where
 abbrev pub spool_cells : Version → ℕ → Row
 spool_cells v next = Int (pos 1) ∷ Int (pos (version_number v)) ∷ Int (pos next) ∷ []
 
--- ---- pieces: the question gives the number of bytes of each, and no byte is read
+-- ---- bodies: the question gives the number of bytes of each, and no byte is read
 
--- the rowid of a piece, and its size
-abbrev pub numbered_cells : NumberedSize → Row
-numbered_cells numbered = Int numbered.rowid.value ∷ size_cells numbered.size
+abbrev pub AreJobsRising : List BodySize → Type 0
+AreJobsRising = IsAscending (λ (a b : BodySize). a.job < b.job)
 
--- the second has a higher rowid, and a later job or a later place in the same job
-abbrev pub comes_before : NumberedSize → NumberedSize → Bool
-comes_before a b = int_lt a.rowid.value b.rowid.value && (nat_lt a.size.job b.size.job || ((a.size.job == b.size.job) && nat_lt a.size.place b.size.place))
+-- the rows are those of these sizes, and the numbers of the jobs rise
+pub record AreSizes (rows : List Row) (all : List BodySize) : Type 0 where
+  pub rows_are : rows ≡ map size_cells all
+  pub readable : AllByRecursion IsTypedSize all
+  pub rising : AreJobsRising all
 
-pub record IsBefore (a b : NumberedSize) : Type 0 where
-  pub higher : a.rowid.value <ℤ b.rowid.value
-  pub later : size_cmp a.size b.size ≡ Less
+-- What is found is exactly the sizes of the table's bodies, whatever their bytes are.
+pub record FindsSizes (rows : List Row) (found : Option (Vec BodySize Global)) : Type 0 where
+  pub all : IfSome found (λ all. (bs : List Body) × AreRows body_cells body_places bs rows × (map size_of bs ≡ all.items) × AllByRecursion IsTypedSize all.items)
+  pub only : (bs : List Body) → AllByRecursion (λ b. IsTypedSize (size_of b)) bs → IsAscending (λ a b. body_cmp a b ≡ Less) bs → Keyed body_key body_cells body_places bs rows → MatchOption found ⊥ (λ all. all.items ≡ map size_of bs)
 
--- the rows are those of these sizes, and the rowids rise in the order of job and place
-pub record AreNumberedSizes (rows : List Row) (all : List PieceSize) : Type 0 where
-  pub numbered : List NumberedSize
-  pub rows_are : rows ≡ map numbered_cells numbered
-  pub readable : AllByRecursion (λ n. IsTypedSize n.size) numbered
-  pub rising : IsAscending IsBefore numbered
-  pub sizes_are : all ≡ map (λ n. n.size) numbered
+-- ---- where a version has a table
 
--- What is found is exactly the sizes of the table's pieces, whatever their bytes are.
-pub record FindsSizes (rows : List Row) (found : Option (Vec PieceSize Global)) : Type 0 where
-  pub all : IfSome found (λ all. (ps : List Piece) × AreRows piece_cells piece_places ps rows × (map size_of ps ≡ all.items) × AllByRecursion IsTypedSize all.items)
-  pub only : (ps : List Piece) → AllByRecursion (λ p. IsTypedSize (size_of p)) ps → IsAscending (λ a b. piece_cmp a b ≡ Less) ps → Keyed piece_key piece_cells piece_places ps rows → MatchOption found ⊥ (λ all. all.items ≡ map size_of ps)
+abbrev pub jobs_at : Version → ℕ
+jobs_at First = old_jobs.tree
+jobs_at Second = old_jobs.tree
+jobs_at Third = old_jobs.tree
+jobs_at Fourth = jobs.tree
+
+abbrev pub entries_at : Version → ℕ
+entries_at First = old_entries.tree
+entries_at Second = old_entries.tree
+entries_at Third = old_entries.tree
+entries_at Fourth = entries.tree
 
 -- ---- the tables that every version has
 
+abbrev pub FindsJobs : Version → Trees → Option (Vec JobHead Global) → Type 0
+FindsJobs v trees found = FindsRows job_key job_cells job_places IsTypedHead head_cmp (trees (jobs_at v)) found
+
+abbrev pub FindsEntries : Version → Trees → Option (Vec EntryColumns Global) → Type 0
+FindsEntries v trees found = FindsRows entry_key entry_cells entry_places IsTypedEntry entry_cmp (trees (entries_at v)) found
+
+-- the table `spool` has its one row, with this version and this next number; none is found only if
+-- it has no such row with a number of 32 bits
+abbrev pub FindsNext : Version → Trees → Option ℕ → Type 0
+FindsNext v trees found = MatchOption found ((next : ℕ) → IsSmall next → trees spool.tree ≢ spool_row_of v next ∷ []) (λ next. trees spool.tree ≡ spool_row_of v next ∷ [])
+
+-- ---- those of version 4
+
 abbrev pub FindsSystems : Trees → Option (Vec SystemColumns Global) → Type 0
 FindsSystems trees found = FindsRows system_key system_cells system_places IsTypedSystem system_cmp (trees systems.tree) found
+
+abbrev pub FindsBodies : Trees → Option (Vec BodySize Global) → Type 0
+FindsBodies trees found = FindsSizes (trees bodies.tree) found
+
+-- ---- those of earlier versions
+
+abbrev pub FindsBareSystems : Trees → Option (Vec BareSystem Global) → Type 0
+FindsBareSystems trees found = FindsRows bare_key bare_cells system_places IsTypedBare bare_system_cmp (trees old_systems.tree) found
 
 abbrev pub FindsLines : Trees → Option (Vec LineColumns Global) → Type 0
 FindsLines trees found = FindsRows line_key line_cells line_places IsTypedLine line_cmp (trees lines.tree) found
@@ -147,42 +175,42 @@ FindsLines trees found = FindsRows line_key line_cells line_places IsTypedLine l
 abbrev pub FindsRanges : Trees → Option (Vec RangeColumns Global) → Type 0
 FindsRanges trees found = FindsRows range_key range_cells range_places IsTypedRange range_cmp (trees ranges.tree) found
 
-abbrev pub FindsJobs : Trees → Option (Vec JobHead Global) → Type 0
-FindsJobs trees found = FindsRows job_key job_cells job_places IsTypedHead head_cmp (trees jobs.tree) found
+abbrev pub FindsPieces : Trees → Option (Vec Piece Global) → Type 0
+FindsPieces trees found = FindsRows piece_key piece_cells piece_places IsTypedPiece piece_cmp (trees pieces.tree) found
 
-abbrev pub FindsPieces : Trees → Option (Vec PieceSize Global) → Type 0
-FindsPieces trees found = FindsSizes (trees pieces.tree) found
-
-abbrev pub FindsEntries : Trees → Option (Vec EntryColumns Global) → Type 0
-FindsEntries trees found = FindsRows entry_key entry_cells entry_places IsTypedEntry entry_cmp (trees entries.tree) found
-
--- the table `spool` has its one row, with this version and this next number; none is found only if
--- it has no such row with a number of 32 bits
-abbrev pub FindsNext : Version → Trees → Option ℕ → Type 0
-FindsNext v trees found = MatchOption found ((next : ℕ) → IsSmall next → trees spool.tree ≢ spool_row_of v next ∷ []) (λ next. trees spool.tree ≡ spool_row_of v next ∷ [])
-
--- ---- success waits: version 1 has no table of them, so it has none
+-- ---- success waits: versions 2 and 3 have a table of them, and version 1 has none
 
 abbrev pub FindsWaits : Version → Trees → Option (Vec WaitColumns Global) → Type 0
 FindsWaits First trees found = MatchOption found ⊥ (λ all. all.items ≡ [])
 FindsWaits Second trees found = FindsRows wait_key wait_cells wait_places IsTypedWait wait_cmp (trees success_waits.tree) found
 FindsWaits Third trees found = FindsRows wait_key wait_cells wait_places IsTypedWait wait_cmp (trees success_waits.tree) found
+FindsWaits Fourth trees found = ⊤
 
 -- a version that has such a table
 abbrev pub HasWaits : Version → Type 0
 HasWaits First = ⊥
 HasWaits Second = ⊤
 HasWaits Third = ⊤
+HasWaits Fourth = ⊥
 
--- ---- links, and what was taken by them: earlier versions have no tables of them, so they have
+-- ---- links, and what was taken by them: versions 1 and 2 have no tables of them, so they have
 -- none
 
 abbrev pub FindsLinks : Version → Trees → Option (Vec LinkColumns Global) → Type 0
 FindsLinks First trees found = MatchOption found ⊥ (λ all. all.items ≡ [])
 FindsLinks Second trees found = MatchOption found ⊥ (λ all. all.items ≡ [])
-FindsLinks Third trees found = FindsRows link_key link_cells link_places IsTypedLink link_cmp (trees links.tree) found
+FindsLinks Third trees found = FindsRows link_key link_cells link_places IsTypedLink link_cmp (trees old_links.tree) found
+FindsLinks Fourth trees found = FindsRows link_key link_cells link_places IsTypedLink link_cmp (trees links.tree) found
 
 abbrev pub FindsTaken : Version → Trees → Option (Vec TakenColumns Global) → Type 0
 FindsTaken First trees found = MatchOption found ⊥ (λ all. all.items ≡ [])
 FindsTaken Second trees found = MatchOption found ⊥ (λ all. all.items ≡ [])
-FindsTaken Third trees found = FindsRows taken_key taken_cells taken_places IsTypedTaken taken_cmp (trees taken.tree) found
+FindsTaken Third trees found = FindsRows taken_key taken_cells taken_places IsTypedTaken taken_cmp (trees old_taken.tree) found
+FindsTaken Fourth trees found = FindsRows taken_key taken_cells taken_places IsTypedTaken taken_cmp (trees taken.tree) found
+
+-- a version that has such tables
+abbrev pub HasLinks : Version → Type 0
+HasLinks First = ⊥
+HasLinks Second = ⊥
+HasLinks Third = ⊤
+HasLinks Fourth = ⊤

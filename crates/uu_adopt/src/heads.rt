@@ -54,7 +54,7 @@ pub(crate) fn read_heads<S: Alter>(
     alloc: Global,
     conn: &mut Connection<S>,
 ) -> Result<Option<Vec<JobHead>>, Error>
-    ensures { (v : Version) → ReadsFrom S.Store v FindsJobs conn.old conn.new result }
+    ensures { (v : Version) → ReadsFrom S.Store v (FindsJobs v) conn.old conn.new result }
 {
     let rows = ask(
         conn,

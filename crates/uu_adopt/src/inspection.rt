@@ -5,9 +5,10 @@ ghost use Rattle.uu_schema.specs.Steps.{IsIdle};
 ghost use Rattle.uu_schema.specs.declared.version.Version.{Version};
 ghost use Rattle.uu_adopt.specs.Reading.{ReadsFrom};
 ghost use Rattle.uu_adopt.specs.Adoption.{Finds, Inspects};
+ghost use Rattle.uu_adopt.specs.AllRows.{TellsState};
 
-use crate::all_rows::are_of_a_state;
 use crate::version::names_later;
+use crate::{all_earlier, all_rows};
 use sqlite::{Alter, Connection, Error};
 use std::alloc::Global;
 use uu_schema::{StoreFault, Version, store_fault};
@@ -21,6 +22,22 @@ pub(crate) enum Finding {
     Foreign,
     /// Of a later version.
     Later,
+}
+
+// Whether the rows of all tables of a version are those of a state.
+fn are_of_a_state<S: Alter>(
+    alloc: Global,
+    conn: &mut Connection<S>,
+    version: Version,
+) -> Result<bool, Error>
+    ensures { ReadsFrom S.Store version (TellsState version) conn.old conn.new result }
+{
+    match version {
+        Version::First => all_earlier::are_of_a_state(alloc, conn, Version::First),
+        Version::Second => all_earlier::are_of_a_state(alloc, conn, Version::Second),
+        Version::Third => all_earlier::are_of_a_state(alloc, conn, Version::Third),
+        Version::Fourth => all_rows::are_of_a_state(alloc, conn),
+    }
 }
 
 // What the database is, from the version whose tables are all there. The version that it names

@@ -4,13 +4,17 @@
 #![tactic(auto)]
 
 mod adoption;
+mod all_earlier;
 mod all_rows;
+mod assembly;
+mod bodies;
 mod heads;
 mod inspection;
 mod integer;
+mod joining;
 pub mod laws;
-mod pieces;
 mod reading;
+mod renewal;
 mod spool;
 mod tables;
 mod version;

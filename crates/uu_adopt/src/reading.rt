@@ -4,19 +4,20 @@ ghost use Rattle.std.specs.List.{AllByRecursion};
 ghost use Rattle.sqlite.specs.declared.error.Error.TheVariants.{SqliteFailure};
 ghost use Rattle.sqlite.specs.declared.error.ErrorCode.TheVariants.{OutOfMemory};
 ghost use Rattle.uu_schema.specs.declared.version.Version.{Version};
-ghost use Rattle.uu_adopt.specs.Reading.{Rise, AreRowids, IsRead, HasWaits, FindsSystems, FindsLines, FindsRanges, FindsEntries, FindsPieces, FindsWaits, FindsLinks, FindsTaken, ReadsFrom};
+ghost use Rattle.uu_schema.specs.Earlier.{IsEarlierVersion};
+ghost use Rattle.uu_adopt.specs.Reading.{Rise, AreRowids, IsRead, HasWaits, HasLinks, FindsSystems, FindsBareSystems, FindsLines, FindsRanges, FindsEntries, FindsPieces, FindsWaits, FindsLinks, FindsTaken, ReadsFrom};
 
 use crate::integer::Integer;
 use sqlite::{Alter, Connection, Error, Row};
 use std::alloc::Global;
 use uu_rows::{
-    RowFault, TypedRow, ask, ask_lines, ask_links, ask_ranges, ask_systems, ask_taken, ask_waits,
-    or_none, read_all,
+    RowFault, TypedRow, ask, ask_bare_systems, ask_lines, ask_links, ask_ranges, ask_systems,
+    ask_taken, ask_waits, or_none, read_all,
 };
 use uu_schema::Version;
 use uu_tables::{
-    EntryColumns, LineColumns, LinkColumns, PieceSize, RangeColumns, SystemColumns, TakenColumns,
-    WaitColumns,
+    BareSystem, EntryColumns, LineColumns, LinkColumns, Piece, RangeColumns, SystemColumns,
+    TakenColumns, WaitColumns,
 };
 
 // Whether each rowid is below the next.
@@ -73,9 +74,22 @@ pub(crate) fn read_systems<S: Alter>(
     alloc: Global,
     conn: &mut Connection<S>,
 ) -> Result<Option<Vec<SystemColumns>>, Error>
-    ensures { (v : Version) → ReadsFrom S.Store v FindsSystems conn.old conn.new result }
+    ensures { ReadsFrom S.Store Version.Fourth FindsSystems conn.old conn.new result }
 {
     let rows = ask_systems(conn)?;
+    let ids = ask(conn, "SELECT rowid FROM systems ORDER BY rowid")?;
+    found(alloc, &rows, &ids)
+}
+
+/// The systems of an earlier version, by name. `None` if a row of the table isn't a system's, or two
+/// rows have the same rowid.
+pub(crate) fn read_bare_systems<S: Alter>(
+    alloc: Global,
+    conn: &mut Connection<S>,
+) -> Result<Option<Vec<BareSystem>>, Error>
+    ensures { (v : Version) → IsEarlierVersion v → ReadsFrom S.Store v FindsBareSystems conn.old conn.new result }
+{
+    let rows = ask_bare_systems(conn)?;
     let ids = ask(conn, "SELECT rowid FROM systems ORDER BY rowid")?;
     found(alloc, &rows, &ids)
 }
@@ -86,7 +100,7 @@ pub(crate) fn read_lines<S: Alter>(
     alloc: Global,
     conn: &mut Connection<S>,
 ) -> Result<Option<Vec<LineColumns>>, Error>
-    ensures { (v : Version) → ReadsFrom S.Store v FindsLines conn.old conn.new result }
+    ensures { (v : Version) → IsEarlierVersion v → ReadsFrom S.Store v FindsLines conn.old conn.new result }
 {
     let rows = ask_lines(conn)?;
     let ids = ask(conn, "SELECT rowid FROM lines ORDER BY rowid")?;
@@ -99,7 +113,7 @@ pub(crate) fn read_ranges<S: Alter>(
     alloc: Global,
     conn: &mut Connection<S>,
 ) -> Result<Option<Vec<RangeColumns>>, Error>
-    ensures { (v : Version) → ReadsFrom S.Store v FindsRanges conn.old conn.new result }
+    ensures { (v : Version) → IsEarlierVersion v → ReadsFrom S.Store v FindsRanges conn.old conn.new result }
 {
     let rows = ask_ranges(conn)?;
     let ids = ask(conn, "SELECT rowid FROM ranges ORDER BY rowid")?;
@@ -112,24 +126,24 @@ pub(crate) fn read_entries<S: Alter>(
     alloc: Global,
     conn: &mut Connection<S>,
 ) -> Result<Option<Vec<EntryColumns>>, Error>
-    ensures { (v : Version) → ReadsFrom S.Store v FindsEntries conn.old conn.new result }
+    ensures { (v : Version) → ReadsFrom S.Store v (FindsEntries v) conn.old conn.new result }
 {
     let rows = ask(conn, "SELECT host, bytes FROM entries ORDER BY host")?;
     let ids = ask(conn, "SELECT rowid FROM entries ORDER BY rowid")?;
     found(alloc, &rows, &ids)
 }
 
-/// Each piece's job, place and number of bytes, by job and place. No byte is read. `None` if a row
-/// of the table isn't a piece's, or two rows have the same rowid.
-pub(crate) fn read_sizes_in_any_order<S: Alter>(
+/// The pieces with their bytes, by job and place. `None` if a row of the table isn't a piece's, or
+/// two rows have the same rowid.
+pub(crate) fn read_pieces<S: Alter>(
     alloc: Global,
     conn: &mut Connection<S>,
-) -> Result<Option<Vec<PieceSize>>, Error>
-    ensures { (v : Version) → ReadsFrom S.Store v FindsPieces conn.old conn.new result }
+) -> Result<Option<Vec<Piece>>, Error>
+    ensures { (v : Version) → IsEarlierVersion v → ReadsFrom S.Store v FindsPieces conn.old conn.new result }
 {
     let rows = ask(
         conn,
-        "SELECT job, place, length(bytes) FROM pieces ORDER BY job, place",
+        "SELECT job, place, bytes FROM pieces ORDER BY job, place",
     )?;
     let ids = ask(conn, "SELECT rowid FROM pieces ORDER BY rowid")?;
     found(alloc, &rows, &ids)
@@ -147,7 +161,8 @@ fn read_waits_of_table<S: Alter>(
     found(alloc, &rows, &ids)
 }
 
-/// The success waits, by system. Version 1 has none, so the list is empty without a question.
+/// The success waits, by system. Versions 1 and 4 have no table of them, so the list is empty
+/// without a question.
 /// `None` if a row of the table isn't a success wait's, or two rows have the same rowid.
 pub(crate) fn read_waits<S: Alter>(
     alloc: Global,
@@ -160,6 +175,7 @@ pub(crate) fn read_waits<S: Alter>(
         Version::First => Ok(Some(Vec::new(alloc))),
         Version::Second => read_waits_of_table(alloc, conn),
         Version::Third => read_waits_of_table(alloc, conn),
+        Version::Fourth => Ok(Some(Vec::new(alloc))),
     }
 }
 
@@ -169,7 +185,7 @@ fn read_links_of_table<S: Alter>(
     alloc: Global,
     conn: &mut Connection<S>,
 ) -> Result<Option<Vec<LinkColumns>>, Error>
-    ensures { ReadsFrom S.Store Version.Third (FindsLinks Version.Third) conn.old conn.new result }
+    ensures { (v : Version) → HasLinks v → ReadsFrom S.Store v (FindsLinks v) conn.old conn.new result }
 {
     let rows = ask_links(conn)?;
     let ids = ask(conn, "SELECT rowid FROM links ORDER BY rowid")?;
@@ -190,6 +206,7 @@ pub(crate) fn read_links<S: Alter>(
         Version::First => Ok(Some(Vec::new(alloc))),
         Version::Second => Ok(Some(Vec::new(alloc))),
         Version::Third => read_links_of_table(alloc, conn),
+        Version::Fourth => read_links_of_table(alloc, conn),
     }
 }
 
@@ -199,7 +216,7 @@ fn read_taken_of_table<S: Alter>(
     alloc: Global,
     conn: &mut Connection<S>,
 ) -> Result<Option<Vec<TakenColumns>>, Error>
-    ensures { ReadsFrom S.Store Version.Third (FindsTaken Version.Third) conn.old conn.new result }
+    ensures { (v : Version) → HasLinks v → ReadsFrom S.Store v (FindsTaken v) conn.old conn.new result }
 {
     let rows = ask_taken(conn)?;
     let ids = ask(conn, "SELECT rowid FROM taken ORDER BY rowid")?;
@@ -220,5 +237,6 @@ pub(crate) fn read_taken<S: Alter>(
         Version::First => Ok(Some(Vec::new(alloc))),
         Version::Second => Ok(Some(Vec::new(alloc))),
         Version::Third => read_taken_of_table(alloc, conn),
+        Version::Fourth => read_taken_of_table(alloc, conn),
     }
 }

@@ -23,6 +23,7 @@ fn number_of(version: Version) -> u32
         Version::First => 1,
         Version::Second => 2,
         Version::Third => 3,
+        Version::Fourth => 4,
     }
 }
 

@@ -2,7 +2,7 @@
 ghost use Rattle.std.specs.Prelude.{◌≡◌, map};
 ghost use Rattle.std.specs.Option.{option_copied};
 ghost use Rattle.std.specs.List.{list_all};
-ghost use Rattle.uu_adopt.specs.FoundTables.{table_of, has_column, has_table, has_systems, has_jobs, has_waits, has_links, is_whole, is_name_used, is_link_name_used, is_any_name_used, added_with, tables_with, found_of};
+ghost use Rattle.uu_adopt.specs.FoundTables.{table_of, has_column, has_table, has_jobs, has_old_systems, has_old_jobs, has_waits, has_links, is_whole, was_whole, is_name_used, is_link_name_used, is_old_name_used, is_any_name_used, added_with, version_of, tables_with, found_of};
 
 use sqlite_schema::names::same_name;
 use sqlite_schema::schema::{Schema, Table};
@@ -21,6 +21,16 @@ pub(crate) enum Found {
 }
 
 const SYSTEMS: [&str; 7] = [
+    "name",
+    "definition",
+    "last",
+    "failures",
+    "wait",
+    "outcome",
+    "why",
+];
+
+const OLD_SYSTEMS: [&str; 7] = [
     "name",
     "max_retries",
     "last",
@@ -45,6 +55,8 @@ const JOBS: [&str; 9] = [
     "second_word",
     "size",
 ];
+
+const BODIES: [&str; 2] = ["job", "bytes"];
 
 const PIECES: [&str; 3] = ["job", "place", "bytes"];
 
@@ -87,16 +99,24 @@ fn has_table(schema: &Schema, name: &str, columns: &[&str]) -> bool
     }
 }
 
-fn has_systems(schema: &Schema) -> bool
-    ensures { result ≡ has_systems schema.now }
+fn has_jobs(schema: &Schema) -> bool
+    ensures { result ≡ has_jobs schema.now }
 {
-    has_table(schema, "systems", &SYSTEMS)
+    has_table(schema, "jobs", &JOBS)
+        && has_table(schema, "bodies", &BODIES)
+        && has_table(schema, "entries", &ENTRIES)
+}
+
+fn has_old_systems(schema: &Schema) -> bool
+    ensures { result ≡ has_old_systems schema.now }
+{
+    has_table(schema, "systems", &OLD_SYSTEMS)
         && has_table(schema, "lines", &LINES)
         && has_table(schema, "ranges", &RANGES)
 }
 
-fn has_jobs(schema: &Schema) -> bool
-    ensures { result ≡ has_jobs schema.now }
+fn has_old_jobs(schema: &Schema) -> bool
+    ensures { result ≡ has_old_jobs schema.now }
 {
     has_table(schema, "jobs", &JOBS)
         && has_table(schema, "pieces", &PIECES)
@@ -115,11 +135,18 @@ fn has_links(schema: &Schema) -> bool
     has_table(schema, "links", &LINKS) && has_table(schema, "taken", &TAKEN)
 }
 
-// Whether the other columns and tables of version 1 are there.
-fn is_whole(schema: &Schema, spool: &Table) -> bool
-    ensures { result ≡ is_whole schema.now spool.now }
+// Whether the tables of version 4 are there, besides `spool`.
+fn is_whole(schema: &Schema) -> bool
+    ensures { result ≡ is_whole schema.now }
 {
-    has_column(spool, "next") && has_systems(schema) && has_jobs(schema)
+    has_table(schema, "systems", &SYSTEMS) && has_jobs(schema) && has_links(schema)
+}
+
+// Whether those of version 1 are there.
+fn was_whole(schema: &Schema) -> bool
+    ensures { result ≡ was_whole schema.now }
+{
+    has_old_systems(schema) && has_old_jobs(schema)
 }
 
 fn is_name_used(schema: &Schema, name: &str) -> bool
@@ -135,22 +162,30 @@ fn is_link_name_used(schema: &Schema) -> bool
     is_name_used(schema, "links") || is_name_used(schema, "taken")
 }
 
+// Whether a table has the name of one that only earlier versions have.
+fn is_old_name_used(schema: &Schema) -> bool
+    ensures { result ≡ is_old_name_used schema.now }
+{
+    is_name_used(schema, "lines")
+        || is_name_used(schema, "ranges")
+        || is_name_used(schema, "pieces")
+        || is_name_used(schema, "success_waits")
+}
+
 // Whether a table has one of the names, other than `spool`.
 fn is_any_name_used(schema: &Schema) -> bool
     ensures { result ≡ is_any_name_used schema.now }
 {
     is_name_used(schema, "systems")
-        || is_name_used(schema, "lines")
-        || is_name_used(schema, "ranges")
         || is_name_used(schema, "jobs")
-        || is_name_used(schema, "pieces")
+        || is_name_used(schema, "bodies")
         || is_name_used(schema, "entries")
-        || is_name_used(schema, "success_waits")
         || is_link_name_used(schema)
+        || is_old_name_used(schema)
 }
 
-// The version that the tables added after version 1 show: it has all of its own, and no name of
-// those of later versions is taken.
+// The earlier version that the tables added after version 1 show: it has all of its own, and no
+// name of those added later is taken.
 fn added_with(schema: &Schema) -> Option<Version>
     ensures { result ≡ added_with schema.now }
 {
@@ -169,12 +204,29 @@ fn added_with(schema: &Schema) -> Option<Version>
     }
 }
 
+// The version whose tables are there besides `spool`, and none of another version.
+fn version_of(schema: &Schema) -> Option<Version>
+    ensures { result ≡ version_of schema.now }
+{
+    if is_whole(schema) {
+        if is_old_name_used(schema) {
+            None
+        } else {
+            Some(Version::Fourth)
+        }
+    } else if was_whole(schema) && !is_name_used(schema, "bodies") {
+        added_with(schema)
+    } else {
+        None
+    }
+}
+
 // The version whose tables are there with all their columns.
 fn tables_with(schema: &Schema, spool: &Table) -> Option<Version>
     ensures { result ≡ tables_with schema.now spool.now }
 {
-    if is_whole(schema, spool) {
-        added_with(schema)
+    if has_column(spool, "next") {
+        version_of(schema)
     } else {
         None
     }

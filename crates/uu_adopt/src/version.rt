@@ -15,7 +15,7 @@ use sqlite::{Alter, Connection, Error, Row};
 use uu_rows::{RowFault, ask, or_error};
 
 /// The version of the tables that this program makes and reads.
-const VERSION: i64 = 3;
+const VERSION: i64 = 4;
 
 // Whether the row shows a later version than ours.
 fn is_later(row: &Row) -> Result<bool, RowFault>

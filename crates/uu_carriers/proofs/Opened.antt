@@ -12,7 +12,7 @@ use Rattle.uu_core.specs.State.{State}
 use Rattle.uu_core.specs.Run.{state_after}
 use Rattle.uu_core.specs.declared.command.Command.{Command}
 use Rattle.uu_schema.specs.declared.version.Version.{Version}
-use Rattle.uu_schema.specs.declared.version.Version.TheVariants.{Third}
+use Rattle.uu_schema.specs.declared.version.Version.TheVariants.{Fourth}
 use Rattle.uu_schema.specs.Encoded.{HoldsStateAs}
 use Rattle.uu_store.specs.declared.spool.Spool.{Spool}
 use Rattle.uu_store.specs.Exchanges.{Exchange, given, none_given}
@@ -73,7 +73,7 @@ module _ (one_state : OneState) (places : Places) (site : ℕ) (settings : Setti
     };
     exchange_is = it.exchange_is;
     said = λ sayings silent said u kept. subst (λ (n : State). WereSaidFrom (places.name site) n sayings)
-        (one_state Third Third (disk_of it.begun).now.trees s u (shows s keeps).encodes.holds (shows u kept).encodes.holds) said;
+        (one_state Fourth Fourth (disk_of it.begun).now.trees s u (shows s keeps).encodes.holds (shows u kept).encodes.holds) said;
   }
     where
       begun_clean : HasCleanDisk (disk_of it.begun)

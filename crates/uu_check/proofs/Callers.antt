@@ -12,8 +12,9 @@ use Rattle.uu_core.specs.declared.system.Outcome.TheVariants.{Never, Failed, Don
 use Rattle.uu_core.specs.declared.system.CallState.{CallState}
 use Rattle.uu_core.specs.declared.system.SystemRow.{SystemRow}
 use Rattle.uu_core.specs.State.{IsCall, IsOutcome, ComesBefore, same_text, last_second, most_failures}
-use Rattle.uu_tables.specs.declared.rows.SystemColumns.{SystemColumns}
-use Rattle.uu_tables.specs.Tables.{PlacedLine, line_columns, placed, placed_from, system_columns, outcome_number, reason_of}
+use Rattle.uu_tables.specs.declared.earlier.BareSystem.{BareSystem}
+use Rattle.uu_tables.specs.Earlier.{PlacedLine, line_columns, placed, placed_from, bare_system}
+use Rattle.uu_tables.specs.Tables.{outcome_number, reason_of}
 use Rattle.uu_check.specs.Tests.{is_outcome, are_placed, owns_line, fits_system}
 use Rattle.uu_check.proofs.Walks.{Item}
 
@@ -26,7 +27,7 @@ pub record Shown (why : Option (List ℕ)) (outcome last failures wait : ℕ) : 
   pub reason : reason_of it ≡ why
   pub good : IsOutcome it (record { last = last; failures = failures; wait = wait; outcome = it })
 
-shown : (why : Option (List ℕ)) (outcome last failures wait : ℕ) → is_outcome why outcome last failures wait ≡ true → Shown why outcome last failures wait
+pub shown : (why : Option (List ℕ)) (outcome last failures wait : ℕ) → is_outcome why outcome last failures wait ≡ true → Shown why outcome last failures wait
 shown (Some why) outcome last failures wait h = let parts = and_parts _ _ h in record { it = Failed why; number = sym (eqb-true _ _ parts.0); reason = refl; good = parts.1 }
 shown None outcome last failures wait h = go (outcome == 2) refl h
   where
@@ -38,7 +39,7 @@ shown None outcome last failures wait h = go (outcome == 2) refl h
     go false e k = let c = and_parts _ _ k in let b = and_parts _ _ c.0 in let a = and_parts _ _ b.0 in
         record { it = Never; number = sym (eqb-true _ _ a.0); reason = refl; good = (eqb-true _ _ a.1, eqb-true _ _ b.1, eqb-true _ _ c.1) }
 
-outcome_fits : (it : Outcome) (call : CallState) → IsOutcome it call → is_outcome (reason_of it) (outcome_number it) call.last call.failures call.wait ≡ true
+pub outcome_fits : (it : Outcome) (call : CallState) → IsOutcome it call → is_outcome (reason_of it) (outcome_number it) call.last call.failures call.wait ≡ true
 outcome_fits Never call good = rw (eq-eqb call.last 0 good.0, eq-eqb call.failures 0 good.1, eq-eqb call.wait 0 good.2) refl
 outcome_fits (Failed why) call good = rw good refl
 outcome_fits Done call good = refl
@@ -51,16 +52,16 @@ pub record IsGoodSystem (row : SystemRow) : Type 0 where
   pub few : length row.def.lines ≤ 32
   pub call : IsCall row.call
 
-abbrev pub owns : SystemColumns → PlacedLine → Bool
+abbrev pub owns : BareSystem → PlacedLine → Bool
 owns s p = owns_line s (line_columns p)
 
-abbrev pub fits : SystemColumns → List PlacedLine → Bool
+abbrev pub fits : BareSystem → List PlacedLine → Bool
 fits s ps = fits_system s (map line_columns ps)
 
 abbrev pub line_in : PlacedLine → Line
 line_in p = p.line
 
-back : (s : SystemColumns) (place : ℕ) (ps : List PlacedLine) → AllByRecursion (λ p. owns s p ≡ true) ps → are_placed place (map line_columns ps) ≡ true → placed_from s.name place (map line_in ps) ≡ ps
+back : (s : BareSystem) (place : ℕ) (ps : List PlacedLine) → AllByRecursion (λ p. owns s p ≡ true) ps → are_placed place (map line_columns ps) ≡ true → placed_from s.name place (map line_in ps) ≡ ps
 back s place [] own h = refl
 back s place (p ∷ ps) own h =
     let parts = and_parts _ _ h in
@@ -68,7 +69,7 @@ back s place (p ∷ ps) own h =
     let here : place ≡ p.place = sym (eqb-true _ _ parts.0) in
     λ i. record { system = system i; place = here i; line = p.line } ∷ back s (place + 1) ps own.1 parts.1 i
 
-pub system_of_rows : (s : SystemColumns) (ps : List PlacedLine) → AllByRecursion (λ p. owns s p ≡ true) ps → fits s ps ≡ true → Item owns fits system_columns placed IsGoodSystem s ps
+pub system_of_rows : (s : BareSystem) (ps : List PlacedLine) → AllByRecursion (λ p. owns s p ≡ true) ps → fits s ps ≡ true → Item owns fits bare_system placed IsGoodSystem s ps
 system_of_rows s ps own test =
     let d = and_parts _ _ test in let c = and_parts _ _ d.0 in let b = and_parts _ _ c.0 in let a = and_parts _ _ b.0 in
     let z = and_parts _ _ b.1 in let y = and_parts _ _ z.0 in let x = and_parts _ _ y.0 in
@@ -94,7 +95,7 @@ placed_length : (name : List ℕ) (place : ℕ) (lines : List Line) → length (
 placed_length name place [] = refl
 placed_length name place (line ∷ lines) = ap suc (placed_length name (place + 1) lines)
 
-pub system_fits : (row : SystemRow) → IsGoodSystem row → fits (system_columns row) (placed row) ≡ true
+pub system_fits : (row : SystemRow) → IsGoodSystem row → fits (bare_system row) (placed row) ≡ true
 system_fits row good =
     let few : length (map line_columns (placed row)) ≤ 32 = (let e = placed_length row.def.name 0 row.def.lines in let k = good.few in omega (arith, e, k)) in
     rw (good.name, le-leb row.def.max_retries 1000000 good.most, le-leb row.call.last last_second good.call.last, le-leb row.call.failures most_failures good.call.failures, le-leb row.call.wait 31536000 good.call.wait, outcome_fits row.call.outcome row.call good.call.outcome, le-leb (length (map line_columns (placed row))) 32 few)

@@ -6,7 +6,8 @@ use Rattle.std.proofs.lemmas.Bool.{and_parts, eq-eqb, le-leb}
 use Rattle.std.proofs.lemmas.Bool.Decides.{nat_tests}
 use Rattle.std.proofs.lemmas.List.{drop-drop, length-take, length-drop, take_all, drop_all}
 use Rattle.std.proofs.Math.Seq.{take-append_seam, drop-append_seam}
-use Rattle.uu_tables.specs.Tables.{Piece, piece, piece_count, size_of}
+use Rattle.uu_tables.specs.declared.earlier.Piece.{Piece}
+use Rattle.uu_tables.specs.Earlier.{piece, piece_count}
 use Rattle.uu_check.specs.Tests.{are_cut}
 
 -- the pieces from a place on, so many
@@ -38,12 +39,12 @@ abbrev pub bytes_of : List Piece → List ℕ
 bytes_of = flat_map (λ (p : Piece). p.bytes)
 
 -- pieces that pass the test are those of their bytes together
-pub joined : (job : ℕ) (g : List Piece) (place size : ℕ) → AllByRecursion (λ (p : Piece). (p.job == job) ≡ true) g → are_cut place size (map size_of g) ≡ true
+pub joined : (job : ℕ) (g : List Piece) (place size : ℕ) → AllByRecursion (λ (p : Piece). (p.job == job) ≡ true) g → are_cut place size g ≡ true
     → (length (bytes_of g) ≡ size) × (pieces_from job place (piece_count size) (bytes_of g) ≡ g)
 joined job [] place size own h = let none : size ≡ 0 = grind (arith, nat_tests, h) in (sym none, ap (λ n. pieces_from job place (piece_count n) []) none)
 joined job (x ∷ g) place size own h =
     let left = size - min size 16384 in
-    let d = and_parts ((x.place == place) && nat_le 1 size && (length x.bytes == min size 16384)) (are_cut (place + 1) left (map size_of g)) h in
+    let d = and_parts ((x.place == place) && nat_le 1 size && (length x.bytes == min size 16384)) (are_cut (place + 1) left g) h in
     let b = and_parts ((x.place == place) && nat_le 1 size) (length x.bytes == min size 16384) d.0 in
     let a = and_parts (x.place == place) (nat_le 1 size) b.0 in
     let here : x.place ≡ place = (let t = a.0 in grind (arith, nat_tests, t)) in
@@ -60,7 +61,7 @@ joined job (x ∷ g) place size own h =
     )
 
 -- the pieces of bytes pass it
-pub are_pieces : (job place n size : ℕ) (bytes : List ℕ) → length bytes ≡ size → piece_count size ≡ n → are_cut place size (map size_of (pieces_from job place n bytes)) ≡ true
+pub are_pieces : (job place n size : ℕ) (bytes : List ℕ) → length bytes ≡ size → piece_count size ≡ n → are_cut place size (pieces_from job place n bytes) ≡ true
 are_pieces job place zero size bytes is count = subst (λ n. (n == 0) ≡ true) (sym (count_none size count)) refl
 are_pieces job place (suc n) size bytes is count =
     let some : 1 ≤ size = omega (arith, count) in

@@ -1,5 +1,5 @@
 -- Jobs and their heads, with their pieces.
-use Rattle.std.proofs.Common.{◌≡◌, ℕ, zero, suc, ◌+◌, Bool, true, ◌==◌, List, [], ◌∷◌, map, length, IsTrue, All, refl, sym, ap, subst, ◌∙◌}
+use Rattle.std.proofs.Common.{◌≡◌, ℕ, zero, suc, ◌+◌, Bool, true, ◌==◌, List, [], ◌∷◌, length, IsTrue, All, refl, sym, ap, subst, ◌∙◌}
 use Rattle.std.specs.List.{AllByRecursion, list_all}
 use Rattle.std.proofs.lemmas.Bool.{and_parts, leb-true, le-leb, ltb-true, lt-ltb}
 use Rattle.std.proofs.lemmas.List.Elements.{All-nil, All-cons, All-head, All-tail}
@@ -8,7 +8,8 @@ use Rattle.uu_core.specs.declared.job.JobHead.{JobHead}
 use Rattle.uu_core.specs.declared.job.Kind.{Kind}
 use Rattle.uu_core.specs.declared.job.Kind.TheVariants.{Send, Request, Execute}
 use Rattle.uu_core.specs.State.{Job, IsJob, IsKind, head_of, last_second, most_bytes, most_arguments}
-use Rattle.uu_tables.specs.Tables.{Piece, piece_count, pieces_of, size_of}
+use Rattle.uu_tables.specs.declared.earlier.Piece.{Piece}
+use Rattle.uu_tables.specs.Earlier.{piece_count, pieces_of}
 use Rattle.uu_check.specs.Tests.{is_kind, is_head, are_cut, owns_piece, fits_job}
 use Rattle.uu_check.proofs.Walks.{Item}
 use Rattle.uu_check.proofs.Cuts.{pieces_from, as_from, joined, are_pieces, bytes_of}
@@ -33,7 +34,7 @@ kind_to (Send source target) h = rw (h.0, h.1) refl
 kind_to (Request source target) h = rw (h.0, h.1) refl
 kind_to (Execute command arguments) h = rw (h.0, all_to is_word arguments h.1, le-leb (length arguments) most_arguments h.2) refl
 
-job_from : (j : Job) → is_head (head_of j) ≡ true → IsJob j
+pub job_from : (j : Job) → is_head (head_of j) ≡ true → IsJob j
 job_from j h =
     let f = and_parts _ _ h in let e = and_parts _ _ f.0 in let d = and_parts _ _ e.0 in let c = and_parts _ _ d.0 in let b = and_parts _ _ c.0 in let a = and_parts _ _ b.0 in record {
       number = leb-true _ _ a.0;
@@ -50,15 +51,9 @@ job_to j good = rw (le-leb 1 j.number good.number, good.system, lt-ltb j.grade 6
 
 -- ---- with their pieces
 
-abbrev pub owns : JobHead → Piece → Bool
-owns h x = owns_piece h (size_of x)
-
-abbrev pub fits : JobHead → List Piece → Bool
-fits h xs = fits_job h (map size_of xs)
-
-pub job_of_rows : (h : JobHead) (xs : List Piece) → AllByRecursion (λ x. owns h x ≡ true) xs → fits h xs ≡ true → Item owns fits head_of pieces_of IsJob h xs
+pub job_of_rows : (h : JobHead) (xs : List Piece) → AllByRecursion (λ x. owns_piece h x ≡ true) xs → fits_job h xs ≡ true → Item owns_piece fits_job head_of pieces_of IsJob h xs
 job_of_rows h xs own test =
-    let parts = and_parts (is_head h) (are_cut 0 h.size (map size_of xs)) test in
+    let parts = and_parts (is_head h) (are_cut 0 h.size xs) test in
     let it = joined h.number xs 0 h.size own parts.1 in
     let job : Job = record { number = h.number; system = h.system; grade = h.grade; user = h.user; kind = h.kind; queued = h.queued; bytes = bytes_of xs } in
     let row : head_of job ≡ h = ap (λ n. record h { size = n }) it.0 in
@@ -69,9 +64,9 @@ job_of_rows h xs own test =
       children = as_from h.number (bytes_of xs) 0 (piece_count (length (bytes_of xs))) ∙ ap (λ n. pieces_from h.number 0 (piece_count n) (bytes_of xs)) it.0 ∙ it.1;
     }
 
-pub job_fits : (j : Job) → IsJob j → fits (head_of j) (pieces_of j) ≡ true
+pub job_fits : (j : Job) → IsJob j → fits_job (head_of j) (pieces_of j) ≡ true
 job_fits j good =
-    let cut = ap (λ l. are_cut 0 (length j.bytes) (map size_of l)) (as_from j.number j.bytes 0 (piece_count (length j.bytes))) ∙ are_pieces j.number 0 (piece_count (length j.bytes)) (length j.bytes) j.bytes refl refl in
+    let cut = ap (λ l. are_cut 0 (length j.bytes) l) (as_from j.number j.bytes 0 (piece_count (length j.bytes))) ∙ are_pieces j.number 0 (piece_count (length j.bytes)) (length j.bytes) j.bytes refl refl in
     rw (job_to j good, cut) refl
 
 -- pieces are those of one number

@@ -12,3 +12,5 @@ pub mod Rising
 pub mod Search
 pub mod Reading
 pub mod OneState
+pub mod Whole
+pub mod WholeState

@@ -7,9 +7,9 @@ use Rattle.uu_names.proofs.Basics.{text_from, text_to}
 use Rattle.uu_times.specs.Ranges.{AreRunsFrom}
 use Rattle.uu_times.specs.System.{IsRetry}
 use Rattle.uu_core.specs.State.{IsLine, same_text}
-use Rattle.uu_tables.specs.declared.rows.LineColumns.{LineColumns}
-use Rattle.uu_tables.specs.declared.rows.RangeColumns.{RangeColumns}
-use Rattle.uu_tables.specs.Tables.{PlacedLine, line_columns, range_columns, ranges_of}
+use Rattle.uu_tables.specs.declared.earlier.LineColumns.{LineColumns}
+use Rattle.uu_tables.specs.declared.earlier.RangeColumns.{RangeColumns}
+use Rattle.uu_tables.specs.Earlier.{PlacedLine, line_columns, range_columns, ranges_of}
 use Rattle.uu_check.specs.Tests.{are_ranges, is_retry, owns_range, fits_line}
 use Rattle.uu_check.proofs.Walks.{Item}
 

@@ -10,10 +10,11 @@ use Rattle.uu_core.specs.declared.custody.Taken.{Taken}
 use Rattle.uu_core.specs.declared.system.SystemRow.{SystemRow}
 use Rattle.uu_core.specs.Marks.{marks_end}
 use Rattle.uu_core.specs.State.{Link, IsLink, ComesBefore, same_text, is_link, new_link, says_nothing, numbers_end}
-use Rattle.uu_tables.specs.declared.rows.SystemColumns.{SystemColumns}
+use Rattle.uu_tables.specs.declared.earlier.BareSystem.{BareSystem}
 use Rattle.uu_tables.specs.declared.rows.LinkColumns.{LinkColumns}
 use Rattle.uu_tables.specs.declared.rows.TakenColumns.{TakenColumns}
-use Rattle.uu_tables.specs.Tables.{system_columns, links_from, links_of, taken_columns, taken_rows}
+use Rattle.uu_tables.specs.Earlier.{bare_system}
+use Rattle.uu_tables.specs.Tables.{links_from, links_of, taken_columns, taken_rows}
 use Rattle.uu_tables.proofs.OrderLemmas.{found}
 use Rattle.uu_tables.proofs.InsertLemmas.{found_none}
 use Rattle.uu_tables.proofs.OrderLemmas.{none_passes}
@@ -39,10 +40,10 @@ module _ {X : Type 0} (p : X → Bool) where
 
 -- the row of a system, and the number of its link
 pub record Below : Type 0 where
-  pub columns : SystemColumns
+  pub columns : BareSystem
   pub below : ℕ
 
-abbrev pub below_head : Below → SystemColumns
+abbrev pub below_head : Below → BareSystem
 below_head b = b.columns
 
 abbrev pub below_rows : Below → List LinkColumns
@@ -53,10 +54,10 @@ IsBelow b = b.below ≤ numbers_end
 
 -- the row of a system, and what was taken from it
 pub record Took : Type 0 where
-  pub columns : SystemColumns
+  pub columns : BareSystem
   pub taken : List Taken
 
-abbrev pub took_head : Took → SystemColumns
+abbrev pub took_head : Took → BareSystem
 took_head t = t.columns
 
 abbrev pub took_rows : Took → List TakenColumns
@@ -68,11 +69,11 @@ Lower a b = a.number < b.number
 abbrev pub IsTook : Took → Type 0
 IsTook t = AllPairsByRecursion Lower t.taken
 
-one_row : (s : SystemColumns) (l : LinkColumns) (n : ℕ) → l.below ≡ n → 1 ≤ n → s.name ≡ l.system → links_from s.name n ≡ l ∷ []
+one_row : (s : BareSystem) (l : LinkColumns) (n : ℕ) → l.below ≡ n → 1 ≤ n → s.name ≡ l.system → links_from s.name n ≡ l ∷ []
 one_row s l zero is some name = absurd (omega (arith, some))
 one_row s l (suc n) is some name = λ i. record { system = name i; below = sym is i } ∷ []
 
-pub below_of_rows : (s : SystemColumns) (ls : List LinkColumns) → AllByRecursion (λ l. owns_link s l ≡ true) ls → fits_link s ls ≡ true → Item owns_link fits_link below_head below_rows IsBelow s ls
+pub below_of_rows : (s : BareSystem) (ls : List LinkColumns) → AllByRecursion (λ l. owns_link s l ≡ true) ls → fits_link s ls ≡ true → Item owns_link fits_link below_head below_rows IsBelow s ls
 below_of_rows s [] own test = record { item = record { columns = s; below = 0 }; good = omega arith; row = refl; children = refl }
 below_of_rows s (l ∷ []) own test =
     let parts = and_parts _ _ test in
@@ -82,11 +83,11 @@ below_of_rows s (l ∷ other ∷ more) own test = absurd (cc)
 abbrev taken_in : TakenColumns → Taken
 taken_in t = t.taken
 
-rows_back : (s : SystemColumns) (ts : List TakenColumns) → AllByRecursion (λ t. owns_taken s t ≡ true) ts → map (taken_columns s.name) (map taken_in ts) ≡ ts
+rows_back : (s : BareSystem) (ts : List TakenColumns) → AllByRecursion (λ t. owns_taken s t ≡ true) ts → map (taken_columns s.name) (map taken_in ts) ≡ ts
 rows_back s [] own = refl
 rows_back s (t ∷ ts) own = λ i. record { system = text_from s.name t.system own.0 i; taken = t.taken } ∷ rows_back s ts own.1 i
 
-took_of_rows : (s : SystemColumns) (ts : List TakenColumns) → AllByRecursion (λ t. owns_taken s t ≡ true) ts → fits_taken s ts ≡ true → Item owns_taken fits_taken took_head took_rows IsTook s ts
+took_of_rows : (s : BareSystem) (ts : List TakenColumns) → AllByRecursion (λ t. owns_taken s t ≡ true) ts → fits_taken s ts ≡ true → Item owns_taken fits_taken took_head took_rows IsTook s ts
 took_of_rows s ts own test = record {
   item = record { columns = s; taken = map taken_in ts };
   good = risen (taken_columns s.name) taken_before Lower (λ x y. ltb-true _ _) (λ x y z p q. omega (arith, p, q)) (map taken_in ts) (ap (rises taken_before) (rows_back s ts own) ∙ test);
@@ -186,13 +187,13 @@ self_known : (rows : List SystemRow) → AllByRecursion (λ (row : SystemRow). I
 self_known [] = tt
 self_known (x ∷ xs) = (rw (text_to x.def.name) refl, all_weaker _ _ (λ (row : SystemRow) h. or_right (same_text x.def.name row.def.name) (knows xs row.def.name) h) xs (self_known xs))
 
-below_known : (all rows : List SystemRow) (bs : List Below) → map below_head bs ≡ map system_columns rows → AllByRecursion (λ (row : SystemRow). IsTrue (knows all row.def.name)) rows → AllByRecursion (λ (b : Below). IsTrue (knows all b.columns.name)) bs
+below_known : (all rows : List SystemRow) (bs : List Below) → map below_head bs ≡ map bare_system rows → AllByRecursion (λ (row : SystemRow). IsTrue (knows all row.def.name)) rows → AllByRecursion (λ (b : Below). IsTrue (knows all b.columns.name)) bs
 below_known all rows [] same h = tt
 below_known all [] (b ∷ bs) same h = absurd (cc)
 below_known all (x ∷ xs) (b ∷ bs) same h =
-    let first : b.columns ≡ system_columns x = cc in
-    let rest : map below_head bs ≡ map system_columns xs = cc in
-    (subst (λ (c : SystemColumns). IsTrue (knows all c.name)) (sym first) h.0, below_known all xs bs rest h.1)
+    let first : b.columns ≡ bare_system x = cc in
+    let rest : map below_head bs ≡ map bare_system xs = cc in
+    (subst (λ (c : BareSystem). IsTrue (knows all c.name)) (sym first) h.0, below_known all xs bs rest h.1)
 
 -- ---- what was taken is not below the number of its link
 
@@ -277,13 +278,13 @@ whole next l says it = record {
   at_least = All-from_recursion _ l.taken it.late;
 }
 
-pub links_from_rows : (next : ℕ) (rows : List SystemRow) (links : List LinkColumns) (taken : List TakenColumns) → rises system_before (map system_columns rows) ≡ true → are_links next (map system_columns rows) links taken ≡ true → Links next rows links taken
+pub links_from_rows : (next : ℕ) (rows : List SystemRow) (links : List LinkColumns) (taken : List TakenColumns) → rises system_before (map bare_system rows) ≡ true → are_links next (map bare_system rows) links taken ≡ true → Links next rows links taken
 links_from_rows next rows links taken rise h =
     let c = and_parts _ _ h in
     let b = and_parts _ _ c.0 in
     let a = and_parts _ _ b.0 in
-    let low = items_of owns_link fits_link below_head below_rows IsBelow below_of_rows (map system_columns rows) links a.0 in
-    let took = items_of owns_taken fits_taken took_head took_rows IsTook took_of_rows (map system_columns rows) taken a.1 in
+    let low = items_of owns_link fits_link below_head below_rows IsBelow below_of_rows (map bare_system rows) links a.0 in
+    let took = items_of owns_taken fits_taken took_head took_rows IsTook took_of_rows (map bare_system rows) taken a.1 in
     let same = low.heads ∙ sym took.heads in
     let all = paired low.items took.items in
     let links_same : flat_map links_of all ≡ links = paired_links low.items took.items same ∙ low.children in
@@ -374,18 +375,18 @@ module _ {Y : Type 0} (f : Link → List Y) (none : (name : List ℕ) → f (new
           all (first, later) ∙ ap (λ rows. rows ++ flat_map (λ (row : SystemRow). f (its row.def.name (l ∷ ls))) xs) (sym here)
 
 abbrev below_of : List Link → SystemRow → Below
-below_of links row = record { columns = system_columns row; below = (its row.def.name links).below }
+below_of links row = record { columns = bare_system row; below = (its row.def.name links).below }
 
 abbrev took_of : List Link → SystemRow → Took
-took_of links row = record { columns = system_columns row; taken = (its row.def.name links).taken }
+took_of links row = record { columns = bare_system row; taken = (its row.def.name links).taken }
 
-below_heads : (links : List Link) (rows : List SystemRow) → map below_head (map (below_of links) rows) ≡ map system_columns rows
+below_heads : (links : List Link) (rows : List SystemRow) → map below_head (map (below_of links) rows) ≡ map bare_system rows
 below_heads links [] = refl
-below_heads links (x ∷ xs) = ap (λ rest. system_columns x ∷ rest) (below_heads links xs)
+below_heads links (x ∷ xs) = ap (λ rest. bare_system x ∷ rest) (below_heads links xs)
 
-took_heads : (links : List Link) (rows : List SystemRow) → map took_head (map (took_of links) rows) ≡ map system_columns rows
+took_heads : (links : List Link) (rows : List SystemRow) → map took_head (map (took_of links) rows) ≡ map bare_system rows
 took_heads links [] = refl
-took_heads links (x ∷ xs) = ap (λ rest. system_columns x ∷ rest) (took_heads links xs)
+took_heads links (x ∷ xs) = ap (λ rest. bare_system x ∷ rest) (took_heads links xs)
 
 below_kids : (links : List Link) (rows : List SystemRow) → flat_map below_rows (map (below_of links) rows) ≡ flat_map (λ (row : SystemRow). links_of (its row.def.name links)) rows
 below_kids links [] = refl
@@ -437,15 +438,15 @@ given_to next l it = go l.taken (recursion_from_All _ l.taken it.0.numbers) it.1
     go (t ∷ ts) h k = (rw (le-leb 1 t.job h.0.2, lt-ltb t.job next k.0, le-leb t.number numbers_end h.0.0, lt-ltb t.mark marks_end h.0.1) refl, go ts h.1 k.1)
 
 pub links_to_rows : (next : ℕ) (rows : List SystemRow) (links : List Link) → AllPairsByRecursion Before rows → AllPairsByRecursion LinkBefore links → AllByRecursion (λ (l : Link). IsTrue (knows rows l.name)) links → AllByRecursion IsLink links
-    → AllByRecursion (λ (l : Link). AllByRecursion (λ (t : Taken). t.job < next) l.taken) links → are_links next (map system_columns rows) (flat_map links_of links) (flat_map taken_rows links) ≡ true
+    → AllByRecursion (λ (l : Link). AllByRecursion (λ (t : Taken). t.job < next) l.taken) links → are_links next (map bare_system rows) (flat_map links_of links) (flat_map taken_rows links) ≡ true
 links_to_rows next rows links up vp known good given =
     let low = its_has IsBelowLink (λ name. omega arith) in
     let a = walked owns_link fits_link below_head below_rows IsBelow below_fits (λ b. below_owned b.columns.name b.columns.name b.below true (text_to b.columns.name)) (map (below_of links) rows)
     (each_row IsBelow rows (below_of links) (λ row. low row.def.name links (all_weaker _ _ (λ l h. h.below) links good))) (below_apart IsBelow links rows up) in
     let b = walked owns_taken fits_taken took_head took_rows IsTook took_fits (λ t. took_owned t.columns.name t.columns.name t.taken true (text_to t.columns.name)) (map (took_of links) rows)
     (each_row IsTook rows (took_of links) (λ row. its_has (λ l. AllPairsByRecursion Lower l.taken) (λ name. tt) row.def.name links (all_weaker _ _ (λ l h. pairs_by_recursion Lower l.taken h.rising) links good))) (took_apart IsTook links rows up) in
-    let first : walk owns_link fits_link (map system_columns rows) (flat_map links_of links) ≡ true = (λ i. walk owns_link fits_link (sym (below_heads links rows) i) ((merged links_of (λ name. refl) rows links up vp known ∙ sym (below_kids links rows)) i)) ∙ a in
-    let second : walk owns_taken fits_taken (map system_columns rows) (flat_map taken_rows links) ≡ true = (λ i. walk owns_taken fits_taken (sym (took_heads links rows) i) ((merged taken_rows (λ name. refl) rows links up vp known ∙ sym (took_kids links rows)) i)) ∙ b in
+    let first : walk owns_link fits_link (map bare_system rows) (flat_map links_of links) ≡ true = (λ i. walk owns_link fits_link (sym (below_heads links rows) i) ((merged links_of (λ name. refl) rows links up vp known ∙ sym (below_kids links rows)) i)) ∙ a in
+    let second : walk owns_taken fits_taken (map bare_system rows) (flat_map taken_rows links) ≡ true = (λ i. walk owns_taken fits_taken (sym (took_heads links rows) i) ((merged taken_rows (λ name. refl) rows links up vp known ∙ sym (took_kids links rows)) i)) ∙ b in
     let third : list_all (is_given next) (flat_map taken_rows links) ≡ true =
     each_to (is_given next) (flat_map taken_rows links) (all_flat_of (λ t. is_given next t ≡ true) (λ l. IsLink l × AllByRecursion (λ (t : Taken). t.job < next) l.taken) taken_rows (given_to next) links (both IsLink _ _ (λ l h k. (h, k)) links good given)) in
     let fourth : list_all (may_be_asked (flat_map links_of links)) (flat_map taken_rows links) ≡ true = each_to (may_be_asked (flat_map links_of links)) (flat_map taken_rows links) (late_to links vp (all_weaker _ _ (λ l h. recursion_from_All _ l.taken h.at_least) links good)) in

@@ -1,4 +1,4 @@
--- The rows of a state fit the types in which they are read.
+-- The rows of a state in earlier versions fit the types in which they are read.
 use Rattle.std.proofs.Common.{◌≡◌, ℕ, zero, suc, ◌+◌, ◌<◌, ◌≤◌, Bool, true, false, cond, List, [], ◌∷◌, map, length, drop, IsTrue, IfSome, Option, None, Some, Ok, Err, find, refl, sym, subst, arith}
 use Rattle.std.specs.Prelude.{nat_lt}
 use Rattle.std.specs.Str.Lines.{lines}
@@ -20,8 +20,9 @@ use Rattle.uu_core.specs.State.{State, Job, MapEntry, Link, IsLink, IsJob, IsCal
 use Rattle.uu_core.specs.declared.custody.Taken.{Taken}
 use Rattle.uu_core.specs.Marks.{marks_end}
 use Rattle.uu_core.specs.State.{same_text}
-use Rattle.uu_tables.specs.Tables.{links_from, links_of, taken_columns, taken_rows, waits_from, waits_of, PlacedLine, tables_of, system_columns, line_columns, range_columns, entry_columns, placed, placed_from, ranges_of, pieces_of, piece_count, outcome_number, reason_of}
-use Rattle.uu_check.specs.Readable.{IsLinkRow, IsTakenRow, IsWaitRow, IsSystemRow, IsLineRow, IsRangeRow, IsJobRow, IsPieceRow, IsEntryRow, AreReadable}
+use Rattle.uu_tables.specs.Earlier.{waits_from, waits_of, PlacedLine, earlier_tables_of, bare_system, line_columns, range_columns, placed, placed_from, ranges_of, pieces_of, piece_count}
+use Rattle.uu_tables.specs.Tables.{links_from, links_of, taken_columns, taken_rows, entry_columns, outcome_number, reason_of}
+use Rattle.uu_check.specs.Readable.{IsLinkRow, IsTakenRow, IsWaitRow, IsBareRow, IsLineRow, IsRangeRow, IsJobRow, IsPieceRow, IsEntryRow, AreEarlierReadable}
 use Rattle.uu_check.proofs.Lists.{both, all_flat_of}
 use Rattle.uu_check.proofs.Cuts.{pieces_from, as_from}
 use Rattle.uu_check.proofs.Heads.{job_to}
@@ -31,17 +32,17 @@ use Rattle.uu_check.proofs.Verdict.{good_lines}
 
 -- ---- systems
 
-few_outcomes : (it : Outcome) → outcome_number it ≤ 2
+pub few_outcomes : (it : Outcome) → outcome_number it ≤ 2
 few_outcomes Never = omega arith
 few_outcomes (Failed why) = omega arith
 few_outcomes Done = omega arith
 
-why_word : (it : Outcome) (call : CallState) → IsOutcome it call → IfSome (reason_of it) (λ why. IsTrue (is_word why))
+pub why_word : (it : Outcome) (call : CallState) → IsOutcome it call → IfSome (reason_of it) (λ why. IsTrue (is_word why))
 why_word Never call good = tt
 why_word (Failed why) call good = good
 why_word Done call good = tt
 
-system_row : (row : SystemRow) → IsDefinition row.def × IsCall row.call → IsSystemRow (system_columns row)
+system_row : (row : SystemRow) → IsDefinition row.def × IsCall row.call → IsBareRow (bare_system row)
 system_row row good = record {
   name = good.0.name;
   max_retries = good.0.limits.2;
@@ -116,7 +117,7 @@ host_found : (line : Option (List ℕ)) (host : List ℕ) → host_by line ≡ O
 host_found None host h = absurd (cc)
 host_found (Some line) host h = host_named (named_by line) host h
 
-entry_row : (e : MapEntry) → host_of e.bytes ≡ Ok e.host → IsEntryRow (entry_columns e)
+pub entry_row : (e : MapEntry) → host_of e.bytes ≡ Ok e.host → IsEntryRow (entry_columns e)
 entry_row e h = go (nat_lt 65536 (length e.bytes)) refl h
   where
     small : (n : ℕ) → nat_lt 65536 n ≡ false → n ≤ 65536
@@ -129,7 +130,7 @@ entry_row e h = go (nat_lt 65536 (length e.bytes)) refl h
 -- ---- links
 
 -- a name that is known is one of a system
-known_name : (rows : List SystemRow) → AllByRecursion (λ (row : SystemRow). IsDefinition row.def) rows → (name : List ℕ) → IsTrue (knows rows name) → IsTrue (is_site_name name)
+pub known_name : (rows : List SystemRow) → AllByRecursion (λ (row : SystemRow). IsDefinition row.def) rows → (name : List ℕ) → IsTrue (knows rows name) → IsTrue (is_site_name name)
 known_name [] h name k = absurd (let no : IsTrue false = k in cc)
 known_name (x ∷ xs) h name k = by_test (same_text x.def.name name) refl (known_name xs h.1 name)
   where
@@ -137,19 +138,19 @@ known_name (x ∷ xs) h name k = by_test (same_text x.def.name name) refl (known
     by_test true e rest = subst (λ n. IsTrue (is_site_name n)) (text_from x.def.name name e) h.0.name
     by_test false e rest = rest (known_later x xs name e k)
 
-record IsNamed (next : ℕ) (l : Link) : Type 0 where
-  name : IsTrue (is_site_name l.name)
-  good : IsLink l
-  given : AllByRecursion (λ (t : Taken). t.job < next) l.taken
+pub record IsNamed (next : ℕ) (l : Link) : Type 0 where
+  pub name : IsTrue (is_site_name l.name)
+  pub good : IsLink l
+  pub given : AllByRecursion (λ (t : Taken). t.job < next) l.taken
 
-link_rows : (next : ℕ) (l : Link) → IsNamed next l → AllByRecursion IsLinkRow (links_of l)
+pub link_rows : (next : ℕ) (l : Link) → IsNamed next l → AllByRecursion IsLinkRow (links_of l)
 link_rows next l it = go l.below it.good.below
   where
     go : (n : ℕ) → n ≤ numbers_end → AllByRecursion IsLinkRow (links_from l.name n)
     go zero few = tt
     go (suc n) few = (record { system = it.name; below = few }, tt)
 
-taken_in_rows : (next : ℕ) → next ≤ numbers_end → (l : Link) → IsNamed next l → AllByRecursion IsTakenRow (taken_rows l)
+pub taken_in_rows : (next : ℕ) → next ≤ numbers_end → (l : Link) → IsNamed next l → AllByRecursion IsTakenRow (taken_rows l)
 taken_in_rows next last l it = go l.taken (recursion_from_All _ l.taken it.good.numbers) it.given
   where
     go : (ts : List Taken) → AllByRecursion (λ (t : Taken). (t.number ≤ numbers_end) × (t.mark < marks_end) × (1 ≤ t.job)) ts → AllByRecursion (λ (t : Taken). t.job < next) ts → AllByRecursion IsTakenRow (map (taken_columns l.name) ts)
@@ -158,7 +159,7 @@ taken_in_rows next last l it = go l.taken (recursion_from_All _ l.taken it.good.
 
 -- ---- all of them
 
-pub readable : (s : State) → IsWellFormed s → AreReadable (tables_of s)
+pub readable : (s : State) → IsWellFormed s → AreEarlierReadable (earlier_tables_of s)
 readable s good =
     let rows = both (λ (row : SystemRow). IsDefinition row.def) (λ (row : SystemRow). IsCall row.call) (λ (row : SystemRow). IsDefinition row.def × IsCall row.call) (λ row h k. (h, k)) s.systems (recursion_from_All _ s.systems good.definitions) (recursion_from_All _ s.systems good.calls) in
     let last = good.next in
@@ -168,7 +169,7 @@ readable s good =
     let fine = all_flat_of IsPlaced _ placed placed_lines s.systems rows in
     record {
       next = good.next;
-      systems = all_mapped IsSystemRow system_columns s.systems (all_weaker _ _ system_row s.systems rows);
+      systems = all_mapped IsBareRow bare_system s.systems (all_weaker _ _ system_row s.systems rows);
       lines = all_mapped IsLineRow line_columns (flat_map placed s.systems) (all_weaker _ _ line_row (flat_map placed s.systems) fine);
       ranges = all_flat_of IsRangeRow IsPlaced ranges_of line_ranges (flat_map placed s.systems) fine;
       jobs = all_mapped IsJobRow head_of s.jobs (all_weaker _ _ (λ j h. record { number = h.1; good = job_to j h.0 }) s.jobs jobs);

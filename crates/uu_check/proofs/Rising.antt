@@ -1,4 +1,4 @@
--- The tables of a state are in the order of their keys.
+-- The tables of a state in earlier versions are in the order of their keys.
 use Rattle.std.proofs.Common.{◌≡◌, ℕ, zero, suc, ◌+◌, ◌<◌, true, List, [], ◌∷◌, map, length, take, drop, Less, Equal, refl, sym, ap, ◌∙◌, subst, arith}
 use Rattle.std.specs.List.{AllByRecursion, flat_map}
 use Rattle.std.specs.declared.cmp.Ordering.{Ordering}
@@ -13,15 +13,17 @@ use Rattle.uu_times.specs.Ranges.{AreRunsFrom}
 use Rattle.uu_core.specs.declared.job.JobHead.{JobHead}
 use Rattle.uu_core.specs.declared.system.SystemRow.{SystemRow}
 use Rattle.uu_core.specs.State.{State, Job, MapEntry, IsLink, IsCall, IsDefinition, IsWellFormed, ComesBefore, head_of}
-use Rattle.uu_tables.specs.declared.rows.RangeColumns.{RangeColumns}
-use Rattle.uu_tables.specs.declared.rows.WaitColumns.{WaitColumns}
+use Rattle.uu_tables.specs.declared.earlier.RangeColumns.{RangeColumns}
+use Rattle.uu_tables.specs.declared.earlier.WaitColumns.{WaitColumns}
 use Rattle.uu_core.specs.declared.custody.Taken.{Taken}
-use Rattle.uu_tables.specs.declared.rows.SystemColumns.{SystemColumns}
+use Rattle.uu_tables.specs.declared.earlier.BareSystem.{BareSystem}
 use Rattle.uu_tables.specs.declared.rows.LinkColumns.{LinkColumns}
 use Rattle.uu_tables.specs.declared.rows.TakenColumns.{TakenColumns}
-use Rattle.uu_tables.specs.Tables.{links_from, links_of, taken_columns, taken_rows, waits_from, waits_of, Piece, PlacedLine, tables_of, system_columns, line_columns, range_columns, placed, placed_from, ranges_of, pieces_of, piece_count, entry_columns}
+use Rattle.uu_tables.specs.declared.earlier.Piece.{Piece}
+use Rattle.uu_tables.specs.Earlier.{waits_from, waits_of, PlacedLine, earlier_tables_of, bare_system, line_columns, range_columns, placed, placed_from, ranges_of, pieces_of, piece_count}
+use Rattle.uu_tables.specs.Tables.{links_from, links_of, taken_columns, taken_rows, entry_columns}
 use Rattle.uu_tables.specs.Order.{line_cmp, range_cmp, piece_cmp, taken_cmp}
-use Rattle.uu_check.specs.Order.{AreInOrder}
+use Rattle.uu_check.specs.Order.{AreEarlierInOrder}
 use Rattle.uu_check.specs.Walk.{walk, rises}
 use Rattle.uu_check.specs.Tests.{owns_link, fits_link, link_before, system_before}
 use Rattle.uu_check.proofs.Walks.{items_of}
@@ -133,33 +135,33 @@ across_waits a b (suc n) (suc m) before = ((before, tt), tt)
 
 -- ---- links, and what was taken by them
 
-abbrev RowBefore : LinkColumns → LinkColumns → Type 0
+abbrev pub RowBefore : LinkColumns → LinkColumns → Type 0
 RowBefore a b = ComesBefore a.system b.system
 
-own_link : (name : List ℕ) (n : ℕ) → AllPairsByRecursion RowBefore (links_from name n)
+pub own_link : (name : List ℕ) (n : ℕ) → AllPairsByRecursion RowBefore (links_from name n)
 own_link name zero = tt
 own_link name (suc n) = (tt, tt)
 
-across_links : (a b : List ℕ) (n m : ℕ) → ComesBefore a b → Across RowBefore (links_from a n) (links_from b m)
+pub across_links : (a b : List ℕ) (n m : ℕ) → ComesBefore a b → Across RowBefore (links_from a n) (links_from b m)
 across_links a b zero m before = tt
 across_links a b (suc n) zero before = (tt, tt)
 across_links a b (suc n) (suc m) before = ((before, tt), tt)
 
 -- links that belong to systems in order are in order
-pub links_rise : (systems : List SystemColumns) (links : List LinkColumns) → rises system_before systems ≡ true → walk owns_link fits_link systems links ≡ true → rises link_before links ≡ true
+pub links_rise : (systems : List BareSystem) (links : List LinkColumns) → rises system_before systems ≡ true → walk owns_link fits_link systems links ≡ true → rises link_before links ≡ true
 links_rise systems links up h =
     let low = items_of owns_link fits_link below_head below_rows IsBelow below_of_rows systems links h in
     let order = risen below_head system_before BelowBefore (λ x y. less_is _) (λ x y z. nat_list_cmp_total.trans x.columns.name y.columns.name z.columns.name) low.items (ap (rises system_before) low.heads ∙ up) in
     let rows = flat_pairs RowBefore below_rows IsBelow (λ b g. own_link b.columns.name b.below) low.items low.good (weaker_pairs BelowBefore _ (λ x y before. across_links x.columns.name y.columns.name x.below y.below before) low.items order) in
     sym (ap (rises link_before) (map-id links)) ∙ does_rise (λ l. l) link_before RowBefore (λ x y. ap is_lt) links (subst (AllPairsByRecursion RowBefore) low.children rows)
 
-abbrev TakenBefore : TakenColumns → TakenColumns → Type 0
+abbrev pub TakenBefore : TakenColumns → TakenColumns → Type 0
 TakenBefore a b = taken_cmp a b ≡ Less
 
-own_taken : (name : List ℕ) (ts : List Taken) → AllPairsByRecursion (λ (a b : Taken). a.number < b.number) ts → AllPairsByRecursion TakenBefore (map (taken_columns name) ts)
+pub own_taken : (name : List ℕ) (ts : List Taken) → AllPairsByRecursion (λ (a b : Taken). a.number < b.number) ts → AllPairsByRecursion TakenBefore (map (taken_columns name) ts)
 own_taken name ts rise = mapped_pairs TakenBefore (taken_columns name) ts (weaker_pairs (λ (a b : Taken). a.number < b.number) (λ a b. TakenBefore (taken_columns name a) (taken_columns name b)) (λ a b below. rw (tied_itself nat_list_cmp_total name) (lt-nat_cmp a.number b.number below)) ts rise)
 
-across_taken : (a b : List ℕ) (ts us : List Taken) → ComesBefore a b → Across TakenBefore (map (taken_columns a) ts) (map (taken_columns b) us)
+pub across_taken : (a b : List ℕ) (ts us : List Taken) → ComesBefore a b → Across TakenBefore (map (taken_columns a) ts) (map (taken_columns b) us)
 across_taken a b [] us before = tt
 across_taken a b (t ∷ ts) us before = (each us, across_taken a b ts us before)
   where
@@ -169,7 +171,7 @@ across_taken a b (t ∷ ts) us before = (each us, across_taken a b ts us before)
 
 -- ---- all of them
 
-pub in_order : (s : State) → IsWellFormed s → AreInOrder (tables_of s)
+pub in_order : (s : State) → IsWellFormed s → AreEarlierInOrder (earlier_tables_of s)
 in_order s good =
     let names = pairs_by_recursion (λ (a b : SystemRow). ComesBefore a.def.name b.def.name) s.systems good.by_name in
     let numbers = pairs_by_recursion (λ (a b : Job). a.number < b.number) s.jobs good.rising in
@@ -177,7 +179,7 @@ in_order s good =
     let lines = flat_pairs LineBefore placed (λ _. Unit {0}) (λ x g. own_lines x.def.name 0 x.def.lines) s.systems (all_weaker _ _ (λ x h. tt) s.systems rows) (weaker_pairs _ _ across_lines s.systems names) in
     let fine = all_flat_of IsGoodLine _ placed good_lines s.systems rows in
     record {
-      systems = pairs_by_place _ (map system_columns s.systems) (mapped_pairs (λ a b. ComesBefore a.name b.name) system_columns s.systems names);
+      systems = pairs_by_place _ (map bare_system s.systems) (mapped_pairs (λ a b. ComesBefore a.name b.name) bare_system s.systems names);
       lines = pairs_by_place _ (map line_columns (flat_map placed s.systems)) (mapped_pairs (λ a b. line_cmp a b ≡ Less) line_columns (flat_map placed s.systems) lines);
       ranges = pairs_by_place _ (flat_map ranges_of (flat_map placed s.systems)) (flat_pairs RangeBefore ranges_of IsGoodLine (λ p g. own_ranges p.system p.place 0 p.line.windows g.0.1) (flat_map placed s.systems) fine (weaker_pairs _ _ across_ranges (flat_map placed s.systems) lines));
       jobs = pairs_by_place _ (map head_of s.jobs) (mapped_pairs (λ (a b : JobHead). a.number < b.number) head_of s.jobs numbers);

@@ -8,18 +8,22 @@ use Rattle.uu_times.specs.System.{IsRetry, most_lines, most_retries, most_succes
 use Rattle.uu_map.specs.Text.{most_entry}
 use Rattle.uu_core.specs.declared.job.JobHead.{JobHead}
 use Rattle.uu_core.specs.Marks.{marks_end}
-use Rattle.uu_core.specs.State.{last_second, most_failures, most_wait, numbers_end}
+use Rattle.uu_core.specs.State.{IsDefinition, most_bytes, last_second, most_failures, most_wait, numbers_end}
+use Rattle.uu_tables.specs.declared.earlier.BareSystem.{BareSystem}
 use Rattle.uu_tables.specs.declared.rows.SystemColumns.{SystemColumns}
-use Rattle.uu_tables.specs.declared.rows.LineColumns.{LineColumns}
-use Rattle.uu_tables.specs.declared.rows.RangeColumns.{RangeColumns}
+use Rattle.uu_tables.specs.declared.rows.Body.{Body}
+use Rattle.uu_tables.specs.Tables.{Tables}
+use Rattle.uu_tables.specs.declared.earlier.LineColumns.{LineColumns}
+use Rattle.uu_tables.specs.declared.earlier.RangeColumns.{RangeColumns}
 use Rattle.uu_tables.specs.declared.rows.EntryColumns.{EntryColumns}
-use Rattle.uu_tables.specs.declared.rows.WaitColumns.{WaitColumns}
+use Rattle.uu_tables.specs.declared.earlier.WaitColumns.{WaitColumns}
 use Rattle.uu_tables.specs.declared.rows.LinkColumns.{LinkColumns}
 use Rattle.uu_tables.specs.declared.rows.TakenColumns.{TakenColumns}
-use Rattle.uu_tables.specs.Tables.{Tables, Piece, piece_bytes, most_pieces}
+use Rattle.uu_tables.specs.declared.earlier.Piece.{Piece}
+use Rattle.uu_tables.specs.Earlier.{EarlierTables, piece_bytes, most_pieces}
 use Rattle.uu_check.specs.Tests.{is_head}
 
-pub record IsSystemRow (c : SystemColumns) : Type 0 where
+pub record IsBareRow (c : BareSystem) : Type 0 where
   pub name : IsTrue (is_site_name c.name)
   pub max_retries : c.max_retries ≤ most_retries
   pub last : c.call.last ≤ last_second
@@ -68,14 +72,37 @@ pub record IsTakenRow (t : TakenColumns) : Type 0 where
   pub some_job : 1 ≤ t.taken.job
   pub job : t.taken.job < numbers_end
 
-pub record AreReadable (t : Tables) : Type 0 where
+-- rows of earlier versions
+pub record AreEarlierReadable (t : EarlierTables) : Type 0 where
   pub next : t.next ≤ numbers_end
-  pub systems : AllByRecursion IsSystemRow t.systems
+  pub systems : AllByRecursion IsBareRow t.systems
   pub lines : AllByRecursion IsLineRow t.lines
   pub ranges : AllByRecursion IsRangeRow t.ranges
   pub jobs : AllByRecursion IsJobRow t.jobs
   pub pieces : AllByRecursion IsPieceRow t.pieces
   pub entries : AllByRecursion IsEntryRow t.entries
   pub success_waits : AllByRecursion IsWaitRow t.success_waits
+  pub links : AllByRecursion IsLinkRow t.links
+  pub taken : AllByRecursion IsTakenRow t.taken
+
+-- rows of this version
+pub record IsSystemRow (c : SystemColumns) : Type 0 where
+  pub def : IsDefinition c.def
+  pub last : c.call.last ≤ last_second
+  pub failures : c.call.failures ≤ most_failures
+  pub wait : c.call.wait ≤ most_wait
+  pub outcome : c.call.outcome ≤ 2
+  pub why : IfSome c.call.why (λ why. IsTrue (is_word why))
+
+pub record IsBodyRow (b : Body) : Type 0 where
+  pub job : b.job < numbers_end
+  pub length : length b.bytes ≤ most_bytes
+
+pub record AreReadable (t : Tables) : Type 0 where
+  pub next : t.next ≤ numbers_end
+  pub systems : AllByRecursion IsSystemRow t.systems
+  pub jobs : AllByRecursion IsJobRow t.jobs
+  pub bodies : AllByRecursion IsBodyRow t.bodies
+  pub entries : AllByRecursion IsEntryRow t.entries
   pub links : AllByRecursion IsLinkRow t.links
   pub taken : AllByRecursion IsTakenRow t.taken

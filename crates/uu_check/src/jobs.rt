@@ -1,15 +1,15 @@
-// Jobs and their pieces.
+// Jobs and their bytes, which earlier versions have in pieces.
 ghost use Rattle.std.specs.Prelude.{◌≡◌, true};
 ghost use Rattle.std.specs.List.{list_all};
 ghost use Rattle.uu_names.specs.Name.{is_word};
-ghost use Rattle.uu_check.specs.Tests.{is_kind, is_head, are_cut, owns_piece, fits_job, job_before};
+ghost use Rattle.uu_check.specs.Tests.{is_kind, is_head, are_cut, owns_piece, fits_job, owns_body, fits_body, job_before};
 
 use crate::walk::{Owner, Ranked};
 use uu_core::limits::{MAX_ARGUMENTS, MAX_BYTES};
 use uu_core::{JobHead, Kind};
 use uu_names::Word;
 use uu_names::laws::{grade_is_sound, name_is_sound, word_is_sound};
-use uu_tables::{PIECE_BYTES, PieceSize};
+use uu_tables::{BodySize, PIECE_BYTES, Piece};
 use uu_times::moment::LAST_SECOND;
 
 fn words_are_words(words: &[Word])
@@ -46,14 +46,17 @@ fn is_head(head: &JobHead) -> bool
     head.number >= 1 && head.queued <= LAST_SECOND && head.size <= MAX_BYTES && is_kind(&head.kind)
 }
 
-fn are_cut(size: u32, pieces: &[PieceSize]) -> bool
+fn are_cut(size: u32, pieces: &[Piece]) -> bool
     ensures { result ≡ are_cut 0 size pieces.now }
 {
     let mut left = size;
     let mut place = 0;
     for piece in pieces {
         let whole = left.min(PIECE_BYTES as u32);
-        if piece.place as usize != place || left == 0 || piece.length != whole {
+        if piece.place as usize != place
+            || left == 0
+            || piece.bytes.as_slice().len() != whole as usize
+        {
             return false;
         }
         left -= whole;
@@ -62,17 +65,34 @@ fn are_cut(size: u32, pieces: &[PieceSize]) -> bool
     left == 0
 }
 
-impl Owner<PieceSize> for JobHead {
+impl Owner<Piece> for JobHead {
     ghost owns = { owns_piece };
 
     ghost fits = { fits_job };
 
-    fn owns(&self, child: &PieceSize) -> bool {
+    fn owns(&self, child: &Piece) -> bool {
         child.job == self.number
     }
 
-    fn fits(&self, children: &[PieceSize]) -> bool {
+    fn fits(&self, children: &[Piece]) -> bool {
         is_head(self) && are_cut(self.size, children)
+    }
+}
+
+impl Owner<BodySize> for JobHead {
+    ghost owns = { owns_body };
+
+    ghost fits = { fits_body };
+
+    fn owns(&self, child: &BodySize) -> bool {
+        child.job == self.number
+    }
+
+    fn fits(&self, children: &[BodySize]) -> bool {
+        match children {
+            [one] => is_head(self) && one.length == self.size,
+            _ => false,
+        }
     }
 }
 

@@ -7,9 +7,9 @@ ghost use Rattle.uu_check.specs.Walk.{rises};
 use crate::walk::{Owner, Ranked, rise, walk_owners};
 use uu_core::laws::mark_is_sound;
 use uu_core::limits::NUMBERS_END;
-use uu_tables::{LinkColumns, SystemColumns, TakenColumns};
+use uu_tables::{BareSystem, LinkColumns, TakenColumns};
 
-impl Owner<LinkColumns> for SystemColumns {
+impl Owner<LinkColumns> for BareSystem {
     ghost owns = { owns_link };
 
     ghost fits = { fits_link };
@@ -35,7 +35,7 @@ impl Ranked for TakenColumns {
     }
 }
 
-impl Owner<TakenColumns> for SystemColumns {
+impl Owner<TakenColumns> for BareSystem {
     ghost owns = { owns_taken };
 
     ghost fits = { fits_taken };
@@ -92,7 +92,7 @@ fn may_all_be_asked(links: &[LinkColumns], taken: &[TakenColumns]) -> bool
 /// Whether the rows are those of links of these systems, and of what was taken by them.
 pub(crate) fn are_links(
     next: u32,
-    systems: &[SystemColumns],
+    systems: &[BareSystem],
     links: &[LinkColumns],
     taken: &[TakenColumns],
 ) -> bool

@@ -1,71 +1,27 @@
 // Whether all tables are those of a spool.
-ghost use Rattle.std.specs.Prelude.{◌≡◌, ◌↔◌, true, IfOk, nat_le, ◌&&◌};
+ghost use Rattle.std.specs.Prelude.{◌≡◌, ◌↔◌, true, IfOk, All, map, nat_le, ◌&&◌};
 ghost use Rattle.std.specs.List.{list_all};
-ghost use Rattle.uu_core.specs.State.{numbers_end};
+ghost use Rattle.uu_core.specs.State.{IsDefinition, IsLine, numbers_end};
 ghost use Rattle.uu_tables.specs.Tables.{Tables};
 ghost use Rattle.uu_check.specs.OfState.{AreTables, AreRowsOf};
-ghost use Rattle.uu_check.specs.Tests.{is_below, is_known, is_spool, are_systems, are_jobs, are_links, system_before};
+ghost use Rattle.uu_check.specs.Tests.{bare_of, is_call, is_spool, are_called, have_bodies, are_links, system_before};
 ghost use Rattle.uu_check.specs.Walk.{rises};
 
+use crate::earlier::{are_below, are_known};
 use crate::entries::are_entries;
 use crate::links::are_links;
+use crate::systems::is_call;
 use crate::walk::{rise, walk_owners};
 use std::alloc::{AllocError, Global};
 use uu_core::JobHead;
 use uu_core::limits::NUMBERS_END;
+use uu_names::Word;
+use uu_names::laws::{grade_is_sound, name_is_sound};
 use uu_tables::{
-    EntryColumns, LineColumns, LinkColumns, PieceSize, RangeColumns, SystemColumns, TakenColumns,
-    WaitColumns,
+    BareSystem, BodySize, CallColumns, EntryColumns, LinkColumns, SystemColumns, TakenColumns,
 };
-
-fn are_below(next: u32, jobs: &[JobHead]) -> bool
-    ensures { result ≡ list_all (is_below next) jobs.now }
-{
-    jobs.iter().all(|job| job.number < next)
-}
-
-fn is_known(systems: &[SystemColumns], job: &JobHead) -> bool
-    requires { rises system_before systems.now ≡ true }
-    ensures { result ≡ is_known systems.now job.now }
-{
-    match systems.binary_search_by(|system| system.name.cmp(&job.system)) {
-        Ok(_) => true,
-        Err(_) => false,
-    }
-}
-
-fn are_known(systems: &[SystemColumns], jobs: &[JobHead]) -> bool
-    requires { rises system_before systems.now ≡ true }
-    ensures { result ≡ list_all (is_known systems.now) jobs.now }
-{
-    for job in jobs {
-        if !is_known(systems, job) {
-            return false;
-        }
-    }
-    true
-}
-
-fn are_systems(
-    systems: &[SystemColumns],
-    lines: &[LineColumns],
-    ranges: &[RangeColumns],
-    waits: &[WaitColumns],
-) -> bool
-    ensures { result ≡ are_systems systems.now lines.now ranges.now waits.now }
-{
-    rise(systems)
-        && walk_owners(systems, lines)
-        && walk_owners(lines, ranges)
-        && walk_owners(systems, waits)
-}
-
-fn are_jobs(next: u32, systems: &[SystemColumns], jobs: &[JobHead], pieces: &[PieceSize]) -> bool
-    requires { rises system_before systems.now ≡ true }
-    ensures { result ≡ are_jobs next systems.now jobs.now pieces.now }
-{
-    rise(jobs) && are_below(next, jobs) && are_known(systems, jobs) && walk_owners(jobs, pieces)
-}
+use uu_times::laws::windows_are_sound;
+use uu_times::{Line, SystemDef};
 
 /// The rows of the tables, each table in the order of its key.
 #[derive(Clone, Copy)]
@@ -74,38 +30,129 @@ pub struct Rows<'a> {
     pub next: u32,
     /// The systems.
     pub systems: &'a [SystemColumns],
-    /// Their lines.
-    pub lines: &'a [LineColumns],
-    /// The ranges of these.
-    pub ranges: &'a [RangeColumns],
     /// The jobs.
     pub jobs: &'a [JobHead],
-    /// Their pieces.
-    pub pieces: &'a [PieceSize],
+    /// How many bytes they have.
+    pub bodies: &'a [BodySize],
     /// The map entries.
     pub entries: &'a [EntryColumns],
-    /// The success waits of the systems.
-    pub success_waits: &'a [WaitColumns],
     /// The links of the systems.
     pub links: &'a [LinkColumns],
     /// What was taken by them.
     pub taken: &'a [TakenColumns],
 }
 
-fn tested(rows: &Rows<'_>) -> bool
-    ensures { result ≡ (nat_le 1 rows.now.next && nat_le rows.now.next numbers_end && are_systems rows.now.systems.now rows.now.lines.now rows.now.ranges.now rows.now.success_waits.now && are_jobs rows.now.next rows.now.systems.now rows.now.jobs.now rows.now.pieces.now && are_links rows.now.next rows.now.systems.now rows.now.links.now rows.now.taken.now) }
+fn line_is_sound(line: &Line)
+    ensures { IsLine line.now }
+{
+    grade_is_sound(&line.grade);
+    windows_are_sound(&line.windows);
+}
+
+fn definition_is_sound(def: &SystemDef)
+    ensures { IsDefinition def.now }
+{
+    name_is_sound(&def.name);
+    for line in def.lines() {
+        line_is_sound(line);
+    }
+}
+
+fn definitions_are_sound(systems: &[SystemColumns])
+    ensures { All (λ system. IsDefinition system.def) systems.now }
+{
+    for system in systems {
+        definition_is_sound(&system.def);
+    }
+}
+
+fn copied_reason(why: &Option<Word>) -> Result<Option<Word>, AllocError>
+    ensures { IfOk result (λ copy. copy ≡ why.now) }
+{
+    match why {
+        Some(word) => Ok(Some(word.clone()?)),
+        None => Ok(None),
+    }
+}
+
+fn copied_call(call: &CallColumns) -> Result<CallColumns, AllocError>
+    ensures { IfOk result (λ copy. copy ≡ call.now) }
+{
+    let why = copied_reason(&call.why)?;
+    Ok(CallColumns {
+        last: call.last,
+        failures: call.failures,
+        wait: call.wait,
+        outcome: call.outcome,
+        why,
+    })
+}
+
+fn bare_of(system: &SystemColumns) -> Result<BareSystem, AllocError>
+    ensures { IfOk result (λ bare. bare ≡ bare_of system.now) }
+{
+    let name = system.def.name.clone()?;
+    let call = copied_call(&system.call)?;
+    Ok(BareSystem {
+        name,
+        max_retries: system.def.max_retries,
+        call,
+    })
+}
+
+// The systems without their lines and success waits.
+pub(crate) fn bare_systems(
+    alloc: Global,
+    systems: &[SystemColumns],
+) -> Result<Vec<BareSystem>, AllocError>
+    ensures { IfOk result (λ all. all.items ≡ map bare_of systems.now) }
+{
+    let mut all = Vec::new(alloc);
+    for system in systems {
+        all.push(bare_of(system)?)?;
+    }
+    Ok(all)
+}
+
+fn are_calls(systems: &[BareSystem]) -> bool
+    ensures { result ≡ list_all is_call systems.now }
+{
+    for system in systems {
+        if !is_call(system) {
+            return false;
+        }
+    }
+    true
+}
+
+fn are_called(systems: &[BareSystem]) -> bool
+    ensures { result ≡ are_called systems.now }
+{
+    rise(systems) && are_calls(systems)
+}
+
+fn have_bodies(next: u32, systems: &[BareSystem], jobs: &[JobHead], bodies: &[BodySize]) -> bool
+    requires { rises system_before systems.now ≡ true }
+    ensures { result ≡ have_bodies next systems.now jobs.now bodies.now }
+{
+    rise(jobs) && are_below(next, jobs) && are_known(systems, jobs) && walk_owners(jobs, bodies)
+}
+
+fn tested(rows: &Rows<'_>, systems: &[BareSystem]) -> bool
+    ensures { result ≡ (nat_le 1 rows.now.next && nat_le rows.now.next numbers_end && are_called systems.now && have_bodies rows.now.next systems.now rows.now.jobs.now rows.now.bodies.now && are_links rows.now.next systems.now rows.now.links.now rows.now.taken.now) }
 {
     rows.next >= 1
         && rows.next <= NUMBERS_END
-        && are_systems(rows.systems, rows.lines, rows.ranges, rows.success_waits)
-        && are_jobs(rows.next, rows.systems, rows.jobs, rows.pieces)
-        && are_links(rows.next, rows.systems, rows.links, rows.taken)
+        && are_called(systems)
+        && have_bodies(rows.next, systems, rows.jobs, rows.bodies)
+        && are_links(rows.next, systems, rows.links, rows.taken)
 }
 
 fn pass(alloc: Global, rows: &Rows<'_>) -> Result<bool, AllocError>
-    ensures { IfOk result (λ good. good ≡ is_spool rows.now.next rows.now.systems.now rows.now.lines.now rows.now.ranges.now rows.now.success_waits.now rows.now.jobs.now rows.now.pieces.now rows.now.entries.now rows.now.links.now rows.now.taken.now) }
+    ensures { IfOk result (λ good. good ≡ is_spool rows.now.next (map bare_of rows.now.systems.now) rows.now.jobs.now rows.now.bodies.now rows.now.entries.now rows.now.links.now rows.now.taken.now) }
 {
-    if tested(rows) {
+    let systems = bare_systems(alloc, rows.systems)?;
+    if tested(rows, systems.as_slice()) {
         are_entries(alloc, rows.entries)
     } else {
         Ok(false)
@@ -116,5 +163,6 @@ fn pass(alloc: Global, rows: &Rows<'_>) -> Result<bool, AllocError>
 pub fn are_tables(alloc: Global, rows: &Rows<'_>) -> Result<bool, AllocError>
     ensures { (t : Tables) → AreRowsOf rows.now t → IfOk result (λ good. (good ≡ true) ↔ AreTables t) }
 {
+    definitions_are_sound(rows.systems);
     pass(alloc, rows)
 }

@@ -6,7 +6,7 @@ use crate::walk::{Owner, Ranked};
 use uu_core::limits::{MAX_FAILURES, MAX_WAIT};
 use uu_names::laws::{grade_is_sound, name_is_sound, word_is_sound};
 use uu_tables::{
-    CALL_FAILED, CALL_MADE, LineColumns, NEVER_CALLED, RangeColumns, SystemColumns, WaitColumns,
+    BareSystem, CALL_FAILED, CALL_MADE, LineColumns, NEVER_CALLED, RangeColumns, WaitColumns,
 };
 use uu_times::moment::LAST_SECOND;
 use uu_times::system::{LINE_LIMIT, MAX_RETRIES_LIMIT, RETRY_LIMIT, SUCCESS_WAIT_LIMIT};
@@ -49,7 +49,7 @@ impl Owner<RangeColumns> for LineColumns {
     }
 }
 
-fn is_outcome(cells: &SystemColumns) -> bool
+fn is_outcome(cells: &BareSystem) -> bool
     ensures { result ≡ is_outcome cells.now.call.why cells.now.call.outcome cells.now.call.last cells.now.call.failures cells.now.call.wait }
 {
     match &cells.call.why {
@@ -67,7 +67,7 @@ fn is_outcome(cells: &SystemColumns) -> bool
     }
 }
 
-fn is_call(cells: &SystemColumns) -> bool
+pub(crate) fn is_call(cells: &BareSystem) -> bool
     ensures { result ≡ is_call cells.now }
 {
     u64::from(cells.call.last) <= LAST_SECOND
@@ -89,7 +89,7 @@ fn are_placed(lines: &[LineColumns]) -> bool
     true
 }
 
-impl Owner<LineColumns> for SystemColumns {
+impl Owner<LineColumns> for BareSystem {
     ghost owns = { owns_line };
 
     ghost fits = { fits_system };
@@ -107,7 +107,7 @@ impl Owner<LineColumns> for SystemColumns {
     }
 }
 
-impl Owner<WaitColumns> for SystemColumns {
+impl Owner<WaitColumns> for BareSystem {
     ghost owns = { owns_wait };
 
     ghost fits = { fits_wait };
@@ -125,10 +125,10 @@ impl Owner<WaitColumns> for SystemColumns {
     }
 }
 
-impl Ranked for SystemColumns {
+impl Ranked for BareSystem {
     ghost before = { system_before };
 
-    fn before(&self, other: &SystemColumns) -> bool {
+    fn before(&self, other: &BareSystem) -> bool {
         self.name < other.name
     }
 }

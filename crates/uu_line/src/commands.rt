@@ -250,7 +250,7 @@ const ONWARD: Entry<'static> = Entry {
 
 // What `--version` prints after the program's name: the release, and the version of the spool's
 // tables. `scripts/check-tree` compares it with the file VERSION and with the tables.
-const VERSION: &str = "1.0.0, spool version 3";
+const VERSION: &str = "1.0.0, spool version 4";
 
 // The lines that `main` knows by their words, before `clap` reads them.
 const BY_WORDS: &str = "The spool of a site:

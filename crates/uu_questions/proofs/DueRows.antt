@@ -1,5 +1,5 @@
 -- The systems that may be called, and the walk along the jobs.
-use Rattle.std.proofs.Common.{◌≡◌, ◌<◌, ◌+◌, ℕ, zero, suc, pos, Bool, true, false, not, cond, ◌&&◌, ◌||◌, List, [], ◌∷◌, ◌++◌, map, filter, get_or, AllPairs, All, Option, None, refl, ap, sym, subst, ◌∙◌, arith, append-nil, append_assoc, Ordering, Less, Equal, Greater, nat_cmp, IsPermutation}
+use Rattle.std.proofs.Common.{◌≡◌, ◌<◌, ℕ, zero, suc, pos, Bool, true, false, not, cond, ◌&&◌, ◌||◌, List, [], ◌∷◌, ◌++◌, map, filter, get_or, AllPairs, All, Option, None, refl, ap, sym, subst, ◌∙◌, arith, append-nil, append_assoc, Ordering, Less, Equal, Greater, nat_cmp, IsPermutation}
 use Rattle.std.specs.List.{AllByRecursion}
 use Rattle.std.specs.Cmp.{IsTotalOrder, ranked}
 use Rattle.std.specs.Ordering.{is_eq, is_gt, ordering_then, MatchOrdering}

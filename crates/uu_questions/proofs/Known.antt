@@ -61,7 +61,7 @@ next_rows old new s rows of h =
 -- ---- a system
 
 abbrev pub has_name : List ℕ → SystemColumns → Bool
-has_name name row = same_text row.name name
+has_name name row = same_text row.def.name name
 
 pub known_rows : (old new : db.State) (s : State) (name : List ℕ) (rows : List Row) → IsStateOf s old → db.Shown known_text (Text name ∷ []) old new rows → nat_eq (length rows) 0 ≡ not (has_system s name)
 known_rows old new s name rows of h =
@@ -71,7 +71,7 @@ known_rows old new s name rows of h =
     let rs = map system_columns s.systems in
     let a = answer_of spool_schema known_text _ _ params old new known_means of.stands.schema rows h in
     let moved = typed_moved systems.tree tests (at_places (1 ∷ [])) [] trees params rows refl a (columns system_places) beside (λ r. refl) (λ r. refl) system_cells rs of.holds.systems.same
-    (has_name name) (λ x. last_term (at_texts false Eq x.name name ∙ is_eq-slice_cmp x.name name)) in
+    (has_name name) (λ x. last_term (at_texts false Eq x.def.name name ∙ is_eq-slice_cmp x.def.name name)) in
     let lengths : length rows ≡ length (filter (has_name name) rs) = length_permutation _ _ moved ∙ length-map (filter (has_name name) rs) _ in
     ap (λ n. nat_eq n 0) lengths ∙ none_counted (has_name name) rs ∙ ap not (any_mapped (has_name name) system_columns s.systems)
 

@@ -23,6 +23,7 @@ use Rattle.uu_tables.specs.Changes.{is_link_of}
 use Rattle.uu_tables.proofs.SystemLemmas.{each_link}
 use Rattle.uu_tables.proofs.RowLemmas.{each_made}
 use Rattle.uu_schema.specs.Cells.{link_cells, taken_cells}
+use Rattle.uu_schema.specs.Schema as tables
 use Rattle.uu_schema.specs.Schema.{spool_schema}
 use Rattle.uu_questions.specs.Answers.{IsStateOf}
 use Rattle.uu_questions.specs.Links.{below_in, taken_in}
@@ -102,7 +103,7 @@ module _ (old new : db.State) (s : State) (rows : List Row) (of : IsStateOf s ol
   link_answer name h found is =
       let p = is_link_of name in
       let all = (tables_of s).links in
-      let shown = links_are spool_schema old new rows of.stands.schema link_text _ (Text name ∷ []) (where_is 1 0 ∷ []) h link_means (λ r. refl) all of.holds.links.same (links_rise s of.good) p (λ x. last_term (at_texts false Eq x.system name ∙ is_eq-slice_cmp x.system name)) in
+      let shown = links_are spool_schema old new rows of.stands.schema link_text _ (Text name ∷ []) (where_is 1 0 ∷ []) h tables.links.tree link_means (λ r. refl) all of.holds.links.same (links_rise s of.good) p (λ x. last_term (at_texts false Eq x.system name ∙ is_eq-slice_cmp x.system name)) in
       let first = ap (λ rs. slice_get rs 0) shown ∙ slice_get-map link_cells (filter p all) 0 ∙ ap (option_map link_cells) (slice_get-filter p all) in
       ap below_in (same_one link_cells link_back (λ _. Unit {0}) (λ x good. link_returns x) found (find p all) (any found) (any (find p all)) (is ∙ first)) ∙ below_found name s.links links_up
 
@@ -110,7 +111,7 @@ module _ (old new : db.State) (s : State) (rows : List Row) (of : IsStateOf s ol
   taken_answer name number h found is =
       let p = is_row name number in
       let all = (tables_of s).taken in
-      let shown = taken_are spool_schema old new rows of.stands.schema taken_text _ (Text name ∷ Int (pos number) ∷ []) (where_is 1 0 ∷ where_is 2 1 ∷ []) h taken_means (λ r. refl) all of.holds.taken.same (taken_rise s of.good) p
+      let shown = taken_are spool_schema old new rows of.stands.schema taken_text _ (Text name ∷ Int (pos number) ∷ []) (where_is 1 0 ∷ where_is 2 1 ∷ []) h tables.taken.tree taken_means (λ r. refl) all of.holds.taken.same (taken_rise s of.good) p
       (λ x. then_term (at_texts false Eq x.system name ∙ is_eq-slice_cmp x.system name) (last_term (at_ints false Eq (pos x.taken.number) (pos number) ∙ int_eq-pos x.taken.number number))) in
       let first = ap (λ rs. slice_get rs 0) shown ∙ slice_get-map taken_cells (filter p all) 0 ∙ ap (option_map taken_cells) (slice_get-filter p all) in
       ap taken_in (same_one taken_cells taken_back (λ _. Unit {0}) (λ x good. taken_returns x) found (find p all) (any found) (any (find p all)) (is ∙ first)) ∙ taken_found name number s.links links_up

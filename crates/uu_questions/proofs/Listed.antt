@@ -1,4 +1,4 @@
--- What the list of jobs, a job's pieces and an entry show of a state.
+-- What the list of jobs, a job's bytes and an entry show of a state.
 use Rattle.std.proofs.Common.{◌≡◌, ℕ, pos, List, [], ◌∷◌, Bool, true, false, cond, ◌==◌, map, filter, refl, sym, ap, ap₂, ◌∙◌, ◌<◌, Less, Equal, Greater, Ordering, Option, Some, None, option_map, slice_get, Bor, nat_cmp}
 use Rattle.std.specs.Prelude.{◌&&◌, IfSome, find, ⊤}
 use Rattle.std.specs.List.{AllByRecursion}
@@ -8,7 +8,7 @@ use Rattle.std.proofs.lemmas.Map.Text.{is_eq-slice_cmp}
 use Rattle.std.proofs.lemmas.Option.{slice_get-map}
 use Rattle.uu_names.proofs.Basics.{int_cmp-pos, int_eq-pos, lt-nat_cmp, find-map, filter_all}
 use Rattle.sqlite.specs.declared.types.Value.{Value}
-use Rattle.sqlite.specs.declared.types.Value.TheVariants.{Null, Int, Text, Blob}
+use Rattle.sqlite.specs.declared.types.Value.TheVariants.{Null, Int, Text}
 use Rattle.sqlite.specs.Order.{Row}
 use Rattle.sqlite.specs.Tree.{IsAscending}
 use Rattle.sqlite.specs.Query.{Query, Output, output, output_cmp}
@@ -29,28 +29,29 @@ use Rattle.uu_schema.proofs.Asks.{ordered}
 use Rattle.uu_schema.proofs.Answers.{answer_of}
 use Rattle.uu_schema.proofs.Sorted.{IsPermutation-insert_sorted}
 use Rattle.uu_core.specs.declared.job.JobHead.{JobHead}
-use Rattle.uu_core.specs.State.{State, Job, MapEntry, IsWellFormed, head_of, entry_at, same_text}
+use Rattle.uu_core.specs.State.{State, Job, IsWellFormed, head_of, job_at, entry_at, same_text}
 use Rattle.uu_tables.specs.declared.rows.EntryColumns.{EntryColumns}
-use Rattle.uu_tables.specs.Tables.{Piece, tables_of, entry_columns}
-use Rattle.uu_schema.specs.Schema.{spool_schema, jobs, pieces}
+use Rattle.uu_tables.specs.declared.rows.Body.{Body}
+use Rattle.uu_tables.specs.Tables.{entry_columns, body_of}
+use Rattle.uu_schema.specs.Schema.{spool_schema, jobs, bodies, entries}
 use Rattle.uu_schema.specs.Keyed.{columns}
-use Rattle.uu_schema.specs.Held.{job_places, piece_places}
-use Rattle.uu_schema.specs.Cells.{job_cells, piece_cells, entry_cells}
+use Rattle.uu_schema.specs.Held.{job_places}
+use Rattle.uu_schema.specs.Cells.{job_cells, body_cells, entry_cells}
 use Rattle.uu_core.specs.declared.filter.Filter.{Filter}
 use Rattle.uu_questions.specs.Answers.{IsStateOf}
 use Rattle.uu_questions.specs.Listing.{is_wanted, fits, WantsAll, by_rank, listed_jobs}
-use Rattle.uu_tables.specs.Order.{piece_cmp, entry_cmp}
+use Rattle.uu_tables.specs.Order.{entry_cmp}
 use Rattle.uu_rows.specs.Readable.{IsTypedHead}
-use Rattle.uu_questions.proofs.Texts.{all_jobs_text, jobs_text, pieces_text, entry_text, entries_text}
+use Rattle.uu_questions.proofs.Texts.{all_jobs_text, jobs_text, body_text, entry_text, entries_text}
 use Rattle.uu_rows.proofs.Meanings.{at_places, by_places}
-use Rattle.uu_questions.proofs.Meanings.{fit_terms, all_jobs_means, jobs_means, pieces_means, entry_means, entries_means}
-use Rattle.uu_rows.proofs.Comparing.{beside, numbered}
-use Rattle.uu_rows.proofs.Typed.{typed_sorted, typed_only}
-use Rattle.uu_rows.proofs.InTables.{entries_are}
+use Rattle.uu_questions.proofs.Meanings.{fit_terms, all_jobs_means, jobs_means, body_means, entry_means, entries_means}
+use Rattle.uu_rows.proofs.Comparing.{numbered}
+use Rattle.uu_rows.proofs.Typed.{typed_sorted}
+use Rattle.uu_rows.proofs.InTables.{bodies_are, entries_are}
 use Rattle.uu_rows.proofs.InOrder.{ascending_pairs}
-use Rattle.uu_rows.proofs.Back.{same_all, same_one, head_back, head_returns, entry_back, entry_returns}
+use Rattle.uu_rows.proofs.Back.{same_all, same_one, head_back, head_returns, body_back, body_returns, entry_back, entry_returns}
 use Rattle.uu_rows.proofs.Heads.{heads_good}
-use Rattle.uu_questions.proofs.Rising.{pieces_rise}
+use Rattle.uu_questions.proofs.Rising.{bodies_rise}
 use Rattle.uu_questions.proofs.SystemRows.{same_cells}
 
 -- what the question is given: the system and the user, each NULL if none is wanted
@@ -132,7 +133,7 @@ entry_found old new s host rows of h found read =
     let es = map entry_columns s.entries in
     let p : EntryColumns → Bool = λ e. same_text e.host host in
     let rise : IsAscending (λ x y. entry_cmp x y ≡ Less) es = ascending-map (λ x y. entry_cmp x y ≡ Less) entry_columns s.entries (ascending_pairs _ s.entries of.good.by_host) in
-    let is = entries_are spool_schema old new rows of.stands.schema entry_text _ (Text host ∷ []) (where_is 1 0 ∷ []) h entry_means (λ r. refl) es of.holds.entries.same rise p (λ e. last_term (at_texts false Eq e.host host ∙ is_eq-slice_cmp e.host host)) in
+    let is = entries_are spool_schema old new rows of.stands.schema entry_text _ (Text host ∷ []) (where_is 1 0 ∷ []) h entries.tree entry_means (λ r. refl) es of.holds.entries.same rise p (λ e. last_term (at_texts false Eq e.host host ∙ is_eq-slice_cmp e.host host)) in
     same_one entry_cells entry_back (λ _. ⊤) (λ e _. entry_returns e) found (find p es) (any_some found) (any_some (find p es))
     (read ∙ ap (λ rs. slice_get rs 0) is ∙ slice_get-map entry_cells (filter p es) 0 ∙ ap (option_map entry_cells) (slice_get-filter p es))
     ∙ find-map p entry_columns s.entries
@@ -142,27 +143,17 @@ entries_found old new s rows of h found read =
     let es = map entry_columns s.entries in
     let rise : IsAscending (λ x y. entry_cmp x y ≡ Less) es = ascending-map (λ x y. entry_cmp x y ≡ Less) entry_columns s.entries (ascending_pairs _ s.entries of.good.by_host) in
     same_cells entry_cells entry_back entry_returns found _ (sym read
-    ∙ entries_are spool_schema old new rows of.stands.schema entries_text _ [] [] h entries_means (λ r. refl) es of.holds.entries.same rise (λ x. true) (λ x. refl))
+    ∙ entries_are spool_schema old new rows of.stands.schema entries_text _ [] [] h entries.tree entries_means (λ r. refl) es of.holds.entries.same rise (λ x. true) (λ x. refl))
     ∙ filter_all es
 
 -- ---- the bytes of a job
 
-abbrev pub is_piece_of : ℕ → Piece → Bool
-is_piece_of n p = p.job == n
-
-abbrev pub piece_shown : Piece → Row
-piece_shown p = Blob p.bytes ∷ []
-
-pub pieces_found : (old new : db.State) (s : State) (n : ℕ) (rows : List Row) → IsStateOf s old → db.Shown pieces_text (Int (pos n) ∷ []) old new rows → rows ≡ map piece_shown (filter (is_piece_of n) (tables_of s).pieces)
-pieces_found old new s n rows of h =
-    let params : Row = Int (pos n) ∷ [] in
-    let tests = where_is 1 0 ∷ [] in
-    let order = by_places (1 ∷ 2 ∷ []) in
-    let ps = (tables_of s).pieces in
-    let q : Query = ordered pieces.tree tests (at_places (3 ∷ [])) order in
-    let out : Piece → Output = λ x. output q (params ∷ beside (piece_cells x) ∷ []) in
-    let less : (x y : Piece) → piece_cmp x y ≡ Less → output_cmp q (out x) (out y) ≡ Less = λ x y e.
-    then_key (value_cmp-Int (pos x.job) (pos y.job) ∙ int_cmp-pos x.job y.job) (last_key (value_cmp-Int (pos x.place) (pos y.place)) ∙ int_cmp-pos x.place y.place) ∙ e in
-    typed_only pieces.tree tests (at_places (3 ∷ [])) order old.now.trees params rows refl (answer_of spool_schema pieces_text q _ params old new pieces_means of.stands.schema rows h) (columns piece_places) beside (λ r. refl) (λ r. refl)
-    piece_cells ps of.holds.pieces.same (is_piece_of n) (λ p. last_term (at_ints false Eq (pos p.job) (pos n)) ∙ int_eq-pos p.job n)
-    (ascending-filter _ (is_piece_of n) ps (ascending_weaker _ (λ x y. output_cmp q (out x) (out y) ≡ Less) less ps (pieces_rise s of.good)))
+pub body_found : (old new : db.State) (s : State) (n : ℕ) (rows : List Row) → IsStateOf s old → db.Shown body_text (Int (pos n) ∷ []) old new rows → (found : Option Body) → option_map body_cells found ≡ slice_get rows 0
+    → found ≡ option_map body_of (job_at s n)
+body_found old new s n rows of h found read =
+    let bs = map body_of s.jobs in
+    let p : Body → Bool = λ b. b.job == n in
+    let is = bodies_are spool_schema old new rows of.stands.schema body_text _ (Int (pos n) ∷ []) (where_is 0 0 ∷ []) h bodies.tree body_means (λ r. refl) bs of.holds.bodies.same (bodies_rise s of.good) p (λ b. last_term (at_ints false Eq (pos b.job) (pos n)) ∙ int_eq-pos b.job n) in
+    same_one body_cells body_back (λ _. ⊤) (λ b _. body_returns b) found (find p bs) (any_some found) (any_some (find p bs))
+    (read ∙ ap (λ rs. slice_get rs 0) is ∙ slice_get-map body_cells (filter p bs) 0 ∙ ap (option_map body_cells) (slice_get-filter p bs))
+    ∙ find-map p body_of s.jobs

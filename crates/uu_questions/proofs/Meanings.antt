@@ -2,19 +2,17 @@
 use Rattle.std.proofs.Common.{◌∷◌, [], refl, List, ℕ, pos, codes}
 use Rattle.sqlite.specs.declared.types.Value.TheVariants.{Null, Int}
 use Rattle.sqlite.specs.Term.{Term, lit, col, op2}
-use Rattle.sqlite.specs.Query.{Query, inner, end}
+use Rattle.sqlite.specs.Query.{Query}
 use Rattle.sqlite_tied.specs.Compute.{everything}
 use Rattle.sqlite.specs.Listing.{understood}
 use Rattle.sqlite.specs.Collation.TheVariants.{Binary}
-use Rattle.sqlite_sql.specs.declared.ops.BinaryOp.TheVariants.{Is, Or, Compare, Arith}
-use Rattle.sqlite_sql.specs.declared.ops.CompareOp.TheVariants.{Le, Lt}
-use Rattle.sqlite_sql.specs.declared.ops.ArithOp.TheVariants.{Add}
-use Rattle.uu_schema.proofs.Terms.{over, where_is, equal_terms}
+use Rattle.sqlite_sql.specs.declared.ops.BinaryOp.TheVariants.{Is, Or}
+use Rattle.uu_schema.proofs.Terms.{over, where_is}
 use Rattle.uu_schema.proofs.Asks.{Means, ordered}
 use Rattle.uu_schema.specs.Queries.{IsQuery}
-use Rattle.uu_schema.specs.Schema.{spool_schema, spool, systems, lines, ranges, jobs, pieces, entries, success_waits, links, taken}
-use Rattle.uu_questions.proofs.Texts.{next_text, known_text, waiting_text, head_text, system_text, lines_of_text, ranges_of_text, waits_of_text, link_text, taken_text, all_jobs_text, jobs_text, pieces_text, entry_text, entries_text, taken_from_text, held_text, open_text, due_jobs_text}
-use Rattle.uu_rows.proofs.Meanings.{at_places, by_places, is_first, head_names, system_names, line_names, range_names, wait_names, link_names, taken_names}
+use Rattle.uu_schema.specs.Schema.{spool_schema, spool, systems, jobs, bodies, entries, links, taken}
+use Rattle.uu_questions.proofs.Texts.{next_text, known_text, waiting_text, head_text, system_text, link_text, taken_text, all_jobs_text, jobs_text, body_text, entry_text, entries_text, taken_from_text, due_jobs_text}
+use Rattle.uu_rows.proofs.Meanings.{at_places, by_places, is_first, head_names, system_names, link_names, taken_names}
 
 -- ---- before a command
 
@@ -46,14 +44,6 @@ pub system_means : Means spool_schema system_text (ordered systems.tree (where_i
 unfolding understood everything
 system_means = record { command = refl; plain = (refl, refl); listing = refl }
 
-pub lines_of_means : Means spool_schema lines_of_text (ordered lines.tree (where_is 1 0 ∷ []) (at_places (1 ∷ 2 ∷ 3 ∷ 4 ∷ [])) (by_places (1 ∷ 2 ∷ []))) line_names
-unfolding understood everything
-lines_of_means = record { command = refl; plain = (refl, refl); listing = refl }
-
-pub ranges_of_means : Means spool_schema ranges_of_text (ordered ranges.tree (where_is 1 0 ∷ []) (at_places (1 ∷ 2 ∷ 3 ∷ 4 ∷ [])) (by_places (1 ∷ 2 ∷ 3 ∷ []))) range_names
-unfolding understood everything
-ranges_of_means = record { command = refl; plain = (refl, refl); listing = refl }
-
 pub link_means : Means spool_schema link_text (ordered links.tree (where_is 1 0 ∷ []) (at_places (1 ∷ 2 ∷ [])) (by_places (1 ∷ []))) link_names
 unfolding understood everything
 link_means = record { command = refl; plain = (refl, refl); listing = refl }
@@ -61,10 +51,6 @@ link_means = record { command = refl; plain = (refl, refl); listing = refl }
 pub taken_means : Means spool_schema taken_text (ordered taken.tree (where_is 1 0 ∷ where_is 2 1 ∷ []) (at_places (1 ∷ 2 ∷ 3 ∷ 4 ∷ [])) (by_places (1 ∷ 2 ∷ []))) taken_names
 unfolding understood everything
 taken_means = record { command = refl; plain = (refl, refl); listing = refl }
-
-pub waits_of_means : Means spool_schema waits_of_text (ordered success_waits.tree (where_is 1 0 ∷ []) (at_places (1 ∷ 2 ∷ [])) (by_places (1 ∷ []))) wait_names
-unfolding understood everything
-waits_of_means = record { command = refl; plain = (refl, refl); listing = refl }
 
 -- ---- what users ask
 
@@ -83,9 +69,9 @@ pub jobs_means : Means spool_schema jobs_text (ordered jobs.tree fit_terms (at_p
 unfolding understood everything
 jobs_means = record { command = refl; plain = (refl, refl); listing = refl }
 
-pub pieces_means : Means spool_schema pieces_text (ordered pieces.tree (where_is 1 0 ∷ []) (at_places (3 ∷ [])) (by_places (1 ∷ 2 ∷ []))) (codes "bytes" ∷ [])
+pub body_means : Means spool_schema body_text (ordered bodies.tree (where_is 0 0 ∷ []) (at_places (0 ∷ 2 ∷ [])) (by_places (0 ∷ []))) (codes "job" ∷ codes "bytes" ∷ [])
 unfolding understood everything
-pieces_means = record { command = refl; plain = (refl, refl); listing = refl }
+body_means = record { command = refl; plain = (refl, refl); listing = refl }
 
 pub entry_means : Means spool_schema entry_text (ordered entries.tree (where_is 1 0 ∷ []) (at_places (1 ∷ 2 ∷ [])) (by_places (1 ∷ []))) (codes "host" ∷ codes "bytes" ∷ [])
 unfolding understood everything
@@ -98,27 +84,6 @@ entries_means = record { command = refl; plain = (refl, refl); listing = refl }
 pub taken_from_means : Means spool_schema taken_from_text (ordered taken.tree (where_is 1 0 ∷ []) (at_places (1 ∷ 2 ∷ 3 ∷ 4 ∷ [])) (by_places (1 ∷ 2 ∷ []))) taken_names
 unfolding understood everything
 taken_from_means = record { command = refl; plain = (refl, refl); listing = refl }
-
--- ---- which systems may be called
-
--- the wait has begun and is not over
-abbrev pub held_terms : List Term
-held_terms = op2 (Compare Le Binary) (col 1 3) (col 0 0) ∷ op2 (Compare Lt Binary) (col 0 0) (op2 (Arith Add) (col 1 3) (col 1 5)) ∷ []
-
-pub held_means : Means spool_schema held_text (ordered systems.tree held_terms (at_places (1 ∷ 2 ∷ 3 ∷ 4 ∷ 5 ∷ 6 ∷ 7 ∷ [])) (by_places (1 ∷ []))) system_names
-unfolding understood everything
-held_means = record { command = refl; plain = (refl, refl); listing = refl }
-
--- the range, in slot 2, is one of the line's, in slot 1, and holds the minute
-abbrev pub open_terms : List Term
-open_terms = equal_terms (col 2 1) (col 1 1) ∷ equal_terms (col 2 2) (col 1 2) ∷ op2 (Compare Le Binary) (col 2 3) (col 0 0) ∷ op2 (Compare Le Binary) (col 0 0) (col 2 4) ∷ []
-
-abbrev pub open_query : Query
-open_query = record (over lines.tree open_terms (at_places (1 ∷ 2 ∷ 3 ∷ 4 ∷ []))) { from = inner lines.tree (inner ranges.tree end) }
-
-pub open_means : Means spool_schema open_text open_query line_names
-unfolding understood everything
-open_means = record { command = refl; plain = (refl, refl); listing = refl }
 
 -- ---- for which job each system is called
 

@@ -14,6 +14,7 @@ use Rattle.uu_names.proofs.Basics.{later_other, text_from}
 use Rattle.uu_check.proofs.Lists.{all_flat_of}
 use Rattle.uu_schema.proofs.Terms.{where_is}
 use Rattle.uu_schema.specs.Cells.{taken_cells}
+use Rattle.uu_schema.specs.Schema as tables
 use Rattle.uu_schema.specs.Schema.{spool_schema}
 use Rattle.uu_core.specs.declared.custody.Taken.{Taken}
 use Rattle.uu_core.specs.State.{State, Link, ComesBefore, is_link, new_link, link_of, same_text}
@@ -78,6 +79,6 @@ module _ {X : Type 0} (taken : X → List Taken) where
       → taken after ≡ (link_of s name).taken
   taken_listed old new s name rows before after of h none took =
       let all = (tables_of s).taken in
-      let shown = taken_are spool_schema old new rows of.stands.schema taken_from_text _ (Text name ∷ []) (where_is 1 0 ∷ []) h taken_from_means (λ r. refl) all of.holds.taken.same (taken_rise s of.good) (is_taken_of name) (λ x. last_term (at_texts false Eq x.system name ∙ is_eq-slice_cmp x.system name)) in
+      let shown = taken_are spool_schema old new rows of.stands.schema taken_from_text _ (Text name ∷ []) (where_is 1 0 ∷ []) h tables.taken.tree taken_from_means (λ r. refl) all of.holds.taken.same (taken_rise s of.good) (is_taken_of name) (λ x. last_term (at_texts false Eq x.system name ∙ is_eq-slice_cmp x.system name)) in
       let its_rows = shown ∙ ap (map taken_cells) (taken_kept name s.links (ascending_pairs Before s.links of.good.by_link)) in
       walked name (link_of s name).taken before after (subst (λ rs. Took Lists before rs after) its_rows took) ∙ ap (λ l. l ++ (link_of s name).taken) none

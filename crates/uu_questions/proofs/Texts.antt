@@ -16,16 +16,7 @@ abbrev pub head_text : List ℕ
 head_text = codes "SELECT number, system, rank, user, kind, queued, first_word, second_word, size FROM jobs WHERE number = ?1 ORDER BY number"
 
 abbrev pub system_text : List ℕ
-system_text = codes "SELECT name, max_retries, last, failures, wait, outcome, why FROM systems WHERE name = ?1 ORDER BY name"
-
-abbrev pub lines_of_text : List ℕ
-lines_of_text = codes "SELECT system, place, rank, retry FROM lines WHERE system = ?1 ORDER BY system, place"
-
-abbrev pub ranges_of_text : List ℕ
-ranges_of_text = codes "SELECT system, place, low, high FROM ranges WHERE system = ?1 ORDER BY system, place, low"
-
-abbrev pub waits_of_text : List ℕ
-waits_of_text = codes "SELECT system, wait FROM success_waits WHERE system = ?1 ORDER BY system"
+system_text = codes "SELECT name, definition, last, failures, wait, outcome, why FROM systems WHERE name = ?1 ORDER BY name"
 
 abbrev pub link_text : List ℕ
 link_text = codes "SELECT system, below FROM links WHERE system = ?1 ORDER BY system"
@@ -41,8 +32,8 @@ all_jobs_text = codes "SELECT number, system, rank, user, kind, queued, first_wo
 abbrev pub jobs_text : List ℕ
 jobs_text = codes "SELECT number, system, rank, user, kind, queued, first_word, second_word, size FROM jobs WHERE (?1 IS NULL OR system = ?1) AND (?2 IS NULL OR user = ?2) ORDER BY rank, number"
 
-abbrev pub pieces_text : List ℕ
-pieces_text = codes "SELECT bytes FROM pieces WHERE job = ?1 ORDER BY job, place"
+abbrev pub body_text : List ℕ
+body_text = codes "SELECT job, bytes FROM bodies WHERE job = ?1 ORDER BY job"
 
 abbrev pub entry_text : List ℕ
 entry_text = codes "SELECT host, bytes FROM entries WHERE host = ?1 ORDER BY host"
@@ -52,16 +43,6 @@ entries_text = codes "SELECT host, bytes FROM entries ORDER BY host"
 
 abbrev pub taken_from_text : List ℕ
 taken_from_text = codes "SELECT system, number, mark, job FROM taken WHERE system = ?1 ORDER BY system, number"
-
--- ---- which systems may be called
-
--- the systems that are left alone at a second, by name
-abbrev pub held_text : List ℕ
-held_text = codes "SELECT name, max_retries, last, failures, wait, outcome, why FROM systems WHERE last <= ?1 AND ?1 < last + wait ORDER BY name"
-
--- the lines whose windows contain a minute of the week
-abbrev pub open_text : List ℕ
-open_text = codes "SELECT lines.system, lines.place, lines.rank, lines.retry FROM lines JOIN ranges ON ranges.system = lines.system AND ranges.place = lines.place WHERE ranges.low <= ?1 AND ?1 <= ranges.high"
 
 -- ---- for which job each system is called
 

@@ -1,29 +1,10 @@
 -- Which systems may be called, and a walk through the jobs that lists each of the systems once, for
 -- the first job for which it may be called.
-use Rattle.std.specs.Prelude.{◌≡◌, ℕ, pos, nat_le, Bool, not, ◌&&◌, if◌then◌else◌, List, [], ◌∷◌, ◌++◌, Option}
-use Rattle.std.specs.List.{list_any}
+use Rattle.std.specs.Prelude.{◌≡◌, ℕ, pos, Bool, not, ◌&&◌, if◌then◌else◌, List, [], ◌∷◌, ◌++◌, Option}
 use Rattle.sqlite.specs.declared.types.Value.TheVariants.{Int, Text}
 use Rattle.sqlite.specs.Order.{Row}
 use Rattle.uu_core.specs.declared.due.Due.{Due}
-use Rattle.uu_core.specs.declared.system.SystemRow.{SystemRow}
-use Rattle.uu_core.specs.State.{is_system, same_text}
-use Rattle.uu_core.specs.Waiting.{limit_at}
 use Rattle.uu_core.specs.Due.{is_within, is_listed}
-use Rattle.uu_tables.specs.declared.rows.LineColumns.{LineColumns}
-use Rattle.uu_tables.specs.declared.rows.SystemColumns.{SystemColumns}
-
--- one of the lines is of the system of this name, and of this grade or a lower one
-abbrev pub lets_through : List LineColumns → List ℕ → ℕ → Bool
-lets_through lines name grade = list_any (λ line. same_text line.system name && nat_le grade line.grade) lines
-
--- the windows of a line of the system of this name contain the minute, and the line's grade is this
--- one or a lower one
-abbrev pub is_open : List SystemRow → ℕ → List ℕ → ℕ → Bool
-is_open rows week name grade = list_any (λ row. is_system name row && is_within (limit_at row.def.lines week) grade) rows
-
--- a system of this name is one of them
-abbrev pub is_among : List SystemColumns → List ℕ → Bool
-is_among systems name = list_any (λ system. same_text system.name name) systems
 
 -- the columns of a job in the answer
 abbrev pub due_cells : Due → Row

@@ -1,6 +1,6 @@
 pub mod Answers
 pub mod Reading
-pub mod Assembly
+pub mod Systems
 pub mod Listing
 pub mod Walks
 pub mod Dues

@@ -110,8 +110,7 @@ fn due_within<S: Alter>(
 
 /// The systems that may be called at this moment and have a job to be called for. Each comes with
 /// the first of its jobs, by grade and number, whose grade is within its limit. The list is in the
-/// order of these jobs, by grade and number. It asks three questions: which lines have windows that
-/// contain the minute, which systems are left alone, and the jobs. These are read one at a time,
+/// order of these jobs, by grade and number. It reads all systems, and then the jobs one at a time,
 /// without their bytes.
 pub fn systems_due<S: Alter>(
     alloc: Global,

@@ -1,23 +1,21 @@
 // Jobs without their bytes, and one job with them.
-ghost use Rattle.std.specs.Prelude.{◌≡◌, ◌≢◌, ◌↔◌, ◌==◌, ◌++◌, ℕ, List, length, Some, IsTrue, IfOk, IfErr, IfSome, filter, flat_map, option_map};
+ghost use Rattle.std.specs.Prelude.{◌≡◌, ◌≢◌, ◌↔◌, length, Some, IsTrue, IfOk, IfErr, IfSome, option_map};
 ghost use Rattle.sqlite.specs.declared.error.Error.TheVariants.{QueryReturnedNoRows};
 ghost use Rattle.sqlite.specs.Held.{state};
-ghost use Rattle.sqlite.specs.Order.{Row, column};
-ghost use Rattle.sqlite.specs.declared.types.Value.TheVariants.{Blob};
 ghost use Rattle.uu_schema.specs.Steps.{StaysIdle};
 ghost use Rattle.uu_core.specs.declared.filter.Filter.{Filter};
-ghost use Rattle.uu_core.specs.State.{job_at};
-ghost use Rattle.uu_tables.specs.Tables.{tables_of};
+ghost use Rattle.uu_core.specs.State.{Job, job_at};
+ghost use Rattle.uu_tables.specs.Tables.{body_of};
+ghost use Rattle.uu_tables.specs.declared.rows.Body.{Body};
 ghost use Rattle.uu_questions.specs.Answers.{Answers, Asks};
 ghost use Rattle.uu_questions.specs.Listing.{WantsAll, listed_jobs, handed_out, head_and_bytes};
 
-use crate::asks::typed_rows;
+use crate::asks::{typed_row, typed_rows};
 use crate::facts::head_of_job;
-use crate::walk::{RowTaker, walk_rows};
-use sqlite::types::ValueRef;
-use sqlite::{Alter, Connection, Error, Row, params};
+use sqlite::{Alter, Connection, Error, params};
 use std::alloc::Global;
 use uu_core::{Filter, JobHead};
+use uu_tables::Body;
 
 // Whether the filter gives no system and no user.
 fn wants_all(filter: &Filter) -> bool
@@ -71,44 +69,42 @@ pub fn list_jobs<S: Alter>(
     }
 }
 
-// The bytes of the pieces so far.
-#[derive(Drop)]
-struct Joined {
-    bytes: Vec<u8>,
+// The row with the bytes of the job of this number, if it is there.
+fn body_of_job<S: Alter>(
+    alloc: Global,
+    conn: &mut Connection<S>,
+    number: u32,
+) -> Result<Option<Body>, Error>
+    ensures { Asks S.Store (λ s found. found ≡ option_map body_of (job_at s number)) conn.old conn.new result }
+{
+    typed_row(
+        alloc,
+        conn,
+        "SELECT job, bytes FROM bodies WHERE job = ?1 ORDER BY job",
+        params![number],
+    )
 }
 
-impl RowTaker for Joined {
-    ghost takes = { λ old row new. (piece : List ℕ) × (column row 0 ≡ Blob piece) × (new.bytes.items ≡ old.bytes.items ++ piece) };
-
-    fn take(&mut self, row: &Row) -> Result<(), Error> {
-        match row.get_ref(0)? {
-            ValueRef::Blob(piece) => {
-                self.bytes.extend_from_slice(piece)?;
-                Ok(())
-            }
-            _ => Err(Error::QueryReturnedNoRows),
-        }
+// The bytes in the row, which every job has.
+fn bytes_of(body: Option<Body>) -> Result<Vec<u8>, Error>
+    ensures { (found : Body) → body ≡ Some found → IfOk result (λ bytes. bytes.items ≡ found.bytes) }
+{
+    match body {
+        Some(body) => Ok(body.bytes.into_vec()),
+        None => Err(Error::QueryReturnedNoRows),
     }
 }
 
-// The bytes of the job of this number, read one piece at a time.
+// The bytes of the job of this number.
 fn bytes_of_job<S: Alter>(
     alloc: Global,
     conn: &mut Connection<S>,
     number: u32,
 ) -> Result<Vec<u8>, Error>
-    ensures { Asks S.Store (λ s bytes. bytes.items ≡ flat_map (λ piece. piece.bytes) (filter (λ piece. piece.job == number) (tables_of s).pieces)) conn.old conn.new result }
+    ensures { Asks S.Store (λ s bytes. (job : Job) → job_at s number ≡ Some job → bytes.items ≡ job.bytes) conn.old conn.new result }
 {
-    let mut joined = Joined {
-        bytes: Vec::new(alloc),
-    };
-    walk_rows(
-        conn,
-        "SELECT bytes FROM pieces WHERE job = ?1 ORDER BY job, place",
-        params![number],
-        &mut joined,
-    )?;
-    Ok(joined.bytes)
+    let body = body_of_job(alloc, conn, number)?;
+    bytes_of(body)
 }
 
 // The job, if it has as many bytes as its row says.
@@ -124,9 +120,8 @@ fn whole_job(head: JobHead, bytes: Vec<u8>) -> Result<Option<(JobHead, Vec<u8>)>
     }
 }
 
-/// The job of this number with its bytes, if it is there. Besides the job itself, one piece at a
-/// time is in memory. If a job hasn't as many bytes as its row says, that is an error, on an
-/// unclean store too.
+/// The job of this number with its bytes, if it is there. If a job hasn't as many bytes as its row
+/// says, that is an error, on an unclean store too.
 pub fn job_of_number<S: Alter>(
     alloc: Global,
     conn: &mut Connection<S>,

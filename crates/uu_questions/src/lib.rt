@@ -1,11 +1,10 @@
-//! The questions that the spool's store asks of its ten tables, each with its answer: what is asked
+//! The questions that the spool's store asks of its seven tables, each with its answer: what is asked
 //! before a command, and what users ask. A question commits nothing and changes nothing, with any
 //! answer. Out of memory is `OutOfMemory`. A row that the tables allow but the format doesn't is
 //! `QueryReturnedNoRows`.
 #![tactic(auto)]
 
 mod asks;
-mod assembly;
 mod bundle;
 mod callable;
 mod due;

@@ -10,17 +10,21 @@ use Rattle.uu_core.specs.declared.job.JobHead.{JobHead}
 use Rattle.uu_core.specs.declared.job.Kind.{Kind}
 use Rattle.uu_core.specs.declared.job.Kind.TheVariants.{Send, Request, Execute}
 use Rattle.uu_tables.specs.declared.rows.SystemColumns.{SystemColumns}
-use Rattle.uu_tables.specs.declared.rows.LineColumns.{LineColumns}
-use Rattle.uu_tables.specs.declared.rows.RangeColumns.{RangeColumns}
-use Rattle.uu_tables.specs.declared.rows.PieceSize.{PieceSize}
+use Rattle.uu_tables.specs.declared.earlier.LineColumns.{LineColumns}
+use Rattle.uu_tables.specs.declared.earlier.RangeColumns.{RangeColumns}
+use Rattle.uu_tables.specs.declared.earlier.BareSystem.{BareSystem}
+use Rattle.uu_tables.specs.declared.earlier.Piece.{Piece}
+use Rattle.uu_tables.specs.declared.rows.Body.{Body}
+use Rattle.uu_tables.specs.declared.rows.BodySize.{BodySize}
 use Rattle.uu_tables.specs.declared.rows.EntryColumns.{EntryColumns}
-use Rattle.uu_tables.specs.declared.rows.WaitColumns.{WaitColumns}
+use Rattle.uu_tables.specs.declared.earlier.WaitColumns.{WaitColumns}
 use Rattle.uu_tables.specs.declared.rows.LinkColumns.{LinkColumns}
 use Rattle.uu_tables.specs.declared.rows.TakenColumns.{TakenColumns}
-use Rattle.uu_schema.specs.Cells.{system_cells, line_cells, range_cells, job_cells, entry_cells, wait_cells, link_cells, taken_cells}
+use Rattle.uu_schema.specs.Cells.{system_cells, job_cells, body_cells, entry_cells, link_cells, taken_cells, bare_cells, line_cells, range_cells, wait_cells, piece_cells}
 use Rattle.uu_rows.specs.Values.{number_cell}
 use Rattle.uu_core.specs.WellFormed.{HasWords}
-use Rattle.uu_rows.specs.Readable.{IsTypedHead, size_cells}
+use Rattle.uu_rows.specs.Readable.{IsTypedSystem, IsTypedHead, size_cells}
+use Rattle.uu_rows.proofs.Definitions.{definition_back, definition_returns}
 use Rattle.uu_rows.proofs.Words.{words_back, words_returned}
 
 -- ---- generic
@@ -72,6 +76,21 @@ text_returns (Some t) = refl
 
 abbrev pub system_back : Row → SystemColumns
 system_back r = record {
+  def = definition_back (text_back (column r 1));
+  call = record {
+    last = number_back (column r 2);
+    failures = number_back (column r 3);
+    wait = number_back (column r 4);
+    outcome = number_back (column r 5);
+    why = text_or_none (column r 6);
+  };
+}
+
+pub system_returns : (s : SystemColumns) → IsTypedSystem s → system_back (system_cells s) ≡ s
+system_returns s good = λ i. record { def = definition_returns s.def good.def i; call = record s.call { why = text_returns s.call.why i } }
+
+abbrev pub bare_back : Row → BareSystem
+bare_back r = record {
   name = text_back (column r 0);
   max_retries = number_back (column r 1);
   call = record {
@@ -83,8 +102,8 @@ system_back r = record {
   };
 }
 
-pub system_returns : (s : SystemColumns) → system_back (system_cells s) ≡ s
-system_returns s = λ i. record s { call = record s.call { why = text_returns s.call.why i } }
+pub bare_returns : (s : BareSystem) → bare_back (bare_cells s) ≡ s
+bare_returns s = λ i. record s { call = record s.call { why = text_returns s.call.why i } }
 
 abbrev pub line_back : Row → LineColumns
 line_back r = record { system = text_back (column r 0); place = number_back (column r 1); grade = number_back (column r 2); retry = number_or_none (column r 3) }
@@ -116,11 +135,23 @@ taken_back r = record { system = text_back (column r 0); taken = record { number
 pub taken_returns : (t : TakenColumns) → taken_back (taken_cells t) ≡ t
 taken_returns t = refl
 
-abbrev pub size_back : Row → PieceSize
-size_back r = record { job = number_back (column r 0); place = number_back (column r 1); length = number_back (column r 2) }
+abbrev pub body_back : Row → Body
+body_back r = record { job = number_back (column r 0); bytes = text_back (column r 1) }
 
-pub size_returns : (p : PieceSize) → size_back (size_cells p) ≡ p
-size_returns p = refl
+pub body_returns : (b : Body) → body_back (body_cells b) ≡ b
+body_returns b = refl
+
+abbrev pub size_back : Row → BodySize
+size_back r = record { job = number_back (column r 0); length = number_back (column r 1) }
+
+pub size_returns : (b : BodySize) → size_back (size_cells b) ≡ b
+size_returns b = refl
+
+abbrev pub piece_back : Row → Piece
+piece_back r = record { job = number_back (column r 0); place = number_back (column r 1); bytes = text_back (column r 2) }
+
+pub piece_returns : (p : Piece) → piece_back (piece_cells p) ≡ p
+piece_returns p = refl
 
 abbrev pub entry_back : Row → EntryColumns
 entry_back r = record { host = text_back (column r 0); bytes = text_back (column r 1) }

@@ -7,6 +7,7 @@ pub mod Told
 pub mod Words
 pub mod RowByRow
 pub mod Showing
+pub mod Definitions
 pub mod Back
 pub mod Comparing
 pub mod InTables

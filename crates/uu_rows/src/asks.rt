@@ -1,5 +1,5 @@
 // Queries in SQL without parameters. Adopting a database and asking a spool share them.
-ghost use Rattle.uu_rows.specs.Texts.{systems_text, lines_text, ranges_text, waits_text, links_text, taken_text};
+ghost use Rattle.uu_rows.specs.Texts.{systems_text, bare_systems_text, lines_text, ranges_text, waits_text, links_text, taken_text};
 ghost use Rattle.uu_schema.specs.Queries.{IsQuery};
 ghost use Rattle.uu_rows.specs.Shows.{AsksText};
 
@@ -16,6 +16,16 @@ pub fn ask<S: Alter>(conn: &mut Connection<S>, sql: &str) -> Result<Vec<Row>, Er
 /// All systems, by name.
 pub fn ask_systems<S: Alter>(conn: &mut Connection<S>) -> Result<Vec<Row>, Error>
     ensures { AsksText S.Store systems_text conn.old conn.new result }
+{
+    ask(
+        conn,
+        "SELECT name, definition, last, failures, wait, outcome, why FROM systems ORDER BY name",
+    )
+}
+
+/// All systems of an earlier version, by name.
+pub fn ask_bare_systems<S: Alter>(conn: &mut Connection<S>) -> Result<Vec<Row>, Error>
+    ensures { AsksText S.Store bare_systems_text conn.old conn.new result }
 {
     ask(
         conn,

@@ -9,6 +9,7 @@ use sqlite::{Error, ErrorCode};
 use std::alloc::{AllocError, AllocFailed};
 use uu_names::NameFault;
 use uu_schema::is_memory;
+use uu_times::TimeFault;
 
 /// Why a row isn't read.
 #[derive(Clone, Copy, Debug, PartialEq, Eq)]
@@ -87,6 +88,16 @@ pub(crate) fn name_fault(fault: NameFault) -> RowFault
 {
     match fault {
         NameFault::Memory => RowFault::Memory,
+        _ => RowFault::Bad,
+    }
+}
+
+pub(crate) fn time_fault(fault: TimeFault) -> RowFault
+    ensures memory { result ≡ RowFault.Memory → fault ≡ TimeFault.Memory }
+    ensures bad { result ≡ RowFault.Bad → fault ≢ TimeFault.Memory }
+{
+    match fault {
+        TimeFault::Memory => RowFault::Memory,
         _ => RowFault::Bad,
     }
 }

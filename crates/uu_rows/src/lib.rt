@@ -4,12 +4,15 @@
 #![tactic(auto)]
 
 mod asks;
+mod definition;
 mod fault;
 mod reading;
 mod rows;
 mod values;
 
-pub use asks::{ask, ask_lines, ask_links, ask_ranges, ask_systems, ask_taken, ask_waits};
+pub use asks::{
+    ask, ask_bare_systems, ask_lines, ask_links, ask_ranges, ask_systems, ask_taken, ask_waits,
+};
 pub use fault::{RowFault, or_error, or_none, read_fault};
 pub use reading::{TypedRow, first_row, read_all, read_rows};
 pub use rows::has_width;

@@ -2,11 +2,12 @@
 ghost use Rattle.std.specs.Prelude.{◌≡◌, ◌≢◌, ℕ, pos, [], ◌∷◌, length, IfOk, Err};
 ghost use Rattle.sqlite.specs.declared.types.Value.TheVariants.{Int, Text};
 ghost use Rattle.sqlite.specs.Order.{column};
-ghost use Rattle.uu_schema.specs.Cells.{system_cells, line_cells, range_cells, job_cells, entry_cells, wait_cells, link_cells, taken_cells, kind_number, first_word, second_word};
+ghost use Rattle.uu_schema.specs.Cells.{system_cells, job_cells, body_cells, entry_cells, link_cells, taken_cells, bare_cells, line_cells, range_cells, wait_cells, piece_cells, kind_number, first_word, second_word};
 ghost use Rattle.uu_rows.specs.Values.{NotIf, number_cell};
 ghost use Rattle.uu_core.specs.WellFormed.{HasWords};
-ghost use Rattle.uu_rows.specs.Readable.{IsTypedSystem, IsTypedLine, IsTypedRange, IsTypedHead, IsTypedSize, IsTypedEntry, IsTypedWait, IsTypedLink, IsTypedTaken, size_cells};
+ghost use Rattle.uu_rows.specs.Readable.{IsTypedSystem, IsTypedHead, IsTypedBody, IsTypedSize, IsTypedEntry, IsTypedLink, IsTypedTaken, IsTypedBare, IsTypedLine, IsTypedRange, IsTypedWait, IsTypedPiece, size_cells};
 
+use crate::definition::definition_in;
 use crate::fault::RowFault;
 use crate::reading::TypedRow;
 use crate::values::{
@@ -18,8 +19,8 @@ use std::alloc::Global;
 use uu_core::{JobHead, Kind, Taken};
 use uu_names::Listed;
 use uu_tables::{
-    CallColumns, EXECUTE, EntryColumns, LineColumns, LinkColumns, PieceSize, REQUEST, RangeColumns,
-    SEND, SystemColumns, TakenColumns, WaitColumns,
+    BareSystem, Body, BodySize, CallColumns, EXECUTE, EntryColumns, LineColumns, LinkColumns,
+    Piece, REQUEST, RangeColumns, SEND, SystemColumns, TakenColumns, WaitColumns,
 };
 
 /// The row, if it has this many columns.
@@ -43,6 +44,26 @@ impl TypedRow for SystemColumns {
     fn read(alloc: Global, row: &Row) -> Result<SystemColumns, RowFault> {
         has_width(row, 7)?;
         Ok(SystemColumns {
+            def: definition_in(alloc, row)?,
+            call: CallColumns {
+                last: number_in(row, 2)?,
+                failures: number_in(row, 3)?,
+                wait: number_in(row, 4)?,
+                outcome: number_in(row, 5)?,
+                why: word_or_null_in(alloc, row, 6)?,
+            },
+        })
+    }
+}
+
+impl TypedRow for BareSystem {
+    ghost cells = { bare_cells };
+
+    ghost IsReadable = { IsTypedBare };
+
+    fn read(alloc: Global, row: &Row) -> Result<BareSystem, RowFault> {
+        has_width(row, 7)?;
+        Ok(BareSystem {
             name: name_in(alloc, row, 0)?,
             max_retries: number_in(row, 1)?,
             call: CallColumns {
@@ -88,17 +109,45 @@ impl TypedRow for RangeColumns {
     }
 }
 
-impl TypedRow for PieceSize {
+impl TypedRow for Body {
+    ghost cells = { body_cells };
+
+    ghost IsReadable = { IsTypedBody };
+
+    fn read(_alloc: Global, row: &Row) -> Result<Body, RowFault> {
+        has_width(row, 2)?;
+        Ok(Body {
+            job: number_in(row, 0)?,
+            bytes: Listed::from_vec(bytes_in(row, 1)?),
+        })
+    }
+}
+
+impl TypedRow for BodySize {
     ghost cells = { size_cells };
 
     ghost IsReadable = { IsTypedSize };
 
-    fn read(_alloc: Global, row: &Row) -> Result<PieceSize, RowFault> {
+    fn read(_alloc: Global, row: &Row) -> Result<BodySize, RowFault> {
+        has_width(row, 2)?;
+        Ok(BodySize {
+            job: number_in(row, 0)?,
+            length: number_in(row, 1)?,
+        })
+    }
+}
+
+impl TypedRow for Piece {
+    ghost cells = { piece_cells };
+
+    ghost IsReadable = { IsTypedPiece };
+
+    fn read(_alloc: Global, row: &Row) -> Result<Piece, RowFault> {
         has_width(row, 3)?;
-        Ok(PieceSize {
+        Ok(Piece {
             job: number_in(row, 0)?,
             place: number_in(row, 1)?,
-            length: number_in(row, 2)?,
+            bytes: Listed::from_vec(bytes_in(row, 2)?),
         })
     }
 }

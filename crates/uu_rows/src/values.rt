@@ -102,6 +102,17 @@ fn bytes_of_text_in<'a>(row: &'a Row, at: usize) -> Result<&'a [u8], RowFault>
     }
 }
 
+/// The bytes in this column, borrowed.
+pub(crate) fn bytes_of_blob_in<'a>(row: &'a Row, at: usize) -> Result<&'a [u8], RowFault>
+    ensures value { IfOk result (λ bytes. column row.now at ≡ Blob bytes.now) }
+    ensures bad { (b : List ℕ) → NotIf result (column row.now at ≡ Blob b) }
+{
+    match row.get_ref(at) {
+        Ok(ValueRef::Blob(bytes)) => Ok(bytes),
+        _ => Err(RowFault::Bad),
+    }
+}
+
 /// The name in this column.
 pub fn name_in(alloc: Global, row: &Row, at: usize) -> Result<SiteName, RowFault>
     ensures value { IfOk result (λ name. column row.now at ≡ Text name) }

@@ -11,8 +11,11 @@ pub mod Sorted
 pub mod Objects
 pub mod Rowids
 mod Texts
+mod DroppedTable
+mod DropMeanings
 pub mod Meanings
 pub mod Keeps
 pub mod Made
+pub mod SpoolRow
 pub mod Begun
 pub mod Resting

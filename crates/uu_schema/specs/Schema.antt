@@ -1,14 +1,11 @@
--- The ten tables of the spool, version 3, and those of earlier versions. (This project's choice.)
+-- The seven tables of the spool, version 4. No table refers to another: the plan of a command removes
+-- what belongs to a system or a job with it. (This project's choice.)
 use Rattle.std.specs.Prelude.{[], ◌∷◌, codes}
 use Rattle.sqlite.specs.Table.{Table}
 use Rattle.sqlite.specs.Schema.{Schema}
 use Rattle.sqlite.specs.Kind.TheVariants.{Integer, Text, Blob}
-use Rattle.sqlite_schema.specs.declared.schema.Action.TheVariants.{NoAction, Cascade}
-use Rattle.sqlite_schema.specs.declared.schema.Reference.{Reference}
 use Rattle.sqlite_catalog.specs.Listing.{automatic}
-use Rattle.uu_schema.specs.Layout.{may, must, refers, by_number, by_key}
-use Rattle.uu_schema.specs.declared.version.Version.{Version}
-use Rattle.uu_schema.specs.declared.version.Version.TheVariants.{First, Second, Third}
+use Rattle.uu_schema.specs.Layout.{may, must, by_number, by_key}
 
 -- ---- tables; trees are numbered in order of creation, each table first and then its index
 
@@ -16,63 +13,35 @@ use Rattle.uu_schema.specs.declared.version.Version.TheVariants.{First, Second, 
 abbrev pub spool : Table
 spool = by_number (codes "spool") 0 (may (codes "id") Integer ∷ must (codes "version") Integer ∷ must (codes "next") Integer ∷ []) []
 
--- the systems, with what the last call left
+-- the systems, each with its definition as a sys file, and with what the last call left
 abbrev pub systems : Table
 systems = by_key (codes "systems") 1
-    (must (codes "name") Text ∷ must (codes "max_retries") Integer ∷ must (codes "last") Integer ∷ must (codes "failures") Integer ∷ must (codes "wait") Integer ∷ must (codes "outcome") Integer ∷ may (codes "why") Text
+    (must (codes "name") Text ∷ must (codes "definition") Blob ∷ must (codes "last") Integer ∷ must (codes "failures") Integer ∷ must (codes "wait") Integer ∷ must (codes "outcome") Integer ∷ may (codes "why") Text
     ∷ [])
     (1 ∷ []) []
 
--- a line is removed with its system
-abbrev pub to_system : Reference
-to_system = refers (1 ∷ []) (codes "systems") (codes "name" ∷ []) Cascade
-
--- the lines of the systems
-abbrev pub lines : Table
-lines = by_key (codes "lines") 3 (must (codes "system") Text ∷ must (codes "place") Integer ∷ must (codes "rank") Integer ∷ may (codes "retry") Integer ∷ []) (1 ∷ 2 ∷ []) (to_system ∷ [])
-
--- a range is removed with its line
-abbrev pub to_line : Reference
-to_line = refers (1 ∷ 2 ∷ []) (codes "lines") (codes "system" ∷ codes "place" ∷ []) Cascade
-
--- the ranges of the lines
-abbrev pub ranges : Table
-ranges = by_key (codes "ranges") 5 (must (codes "system") Text ∷ must (codes "place") Integer ∷ must (codes "low") Integer ∷ must (codes "high") Integer ∷ []) (1 ∷ 2 ∷ 3 ∷ []) (to_line ∷ [])
-
--- a system can't be removed while a job waits for it
-abbrev pub to_known_system : Reference
-to_known_system = refers (2 ∷ []) (codes "systems") (codes "name" ∷ []) NoAction
-
 -- the jobs without their bytes
 abbrev pub jobs : Table
-jobs = by_number (codes "jobs") 7
+jobs = by_number (codes "jobs") 3
     (may (codes "number") Integer ∷ must (codes "system") Text ∷ must (codes "rank") Integer ∷ must (codes "user") Text ∷ must (codes "kind") Integer ∷ must (codes "queued") Integer
     ∷ must (codes "first_word") Text ∷ must (codes "second_word") Text ∷ must (codes "size") Integer ∷ [])
-    (to_known_system ∷ [])
+    []
 
--- a piece is removed with its job
-abbrev pub to_job : Reference
-to_job = refers (1 ∷ []) (codes "jobs") (codes "number" ∷ []) Cascade
-
--- the bytes of the jobs, cut into pieces
-abbrev pub pieces : Table
-pieces = by_key (codes "pieces") 8 (must (codes "job") Integer ∷ must (codes "place") Integer ∷ must (codes "bytes") Blob ∷ []) (1 ∷ 2 ∷ []) (to_job ∷ [])
+-- the bytes of the jobs, a row for each job
+abbrev pub bodies : Table
+bodies = by_number (codes "bodies") 4 (may (codes "job") Integer ∷ must (codes "bytes") Blob ∷ []) []
 
 -- the map entries
 abbrev pub entries : Table
-entries = by_key (codes "entries") 10 (must (codes "host") Text ∷ must (codes "bytes") Blob ∷ []) (1 ∷ []) []
-
--- the success waits of the systems, without those that are 0
-abbrev pub success_waits : Table
-success_waits = by_key (codes "success_waits") 12 (must (codes "system") Text ∷ must (codes "wait") Integer ∷ []) (1 ∷ []) (to_system ∷ [])
+entries = by_key (codes "entries") 5 (must (codes "host") Text ∷ must (codes "bytes") Blob ∷ []) (1 ∷ []) []
 
 -- the numbers below which neighbours won't ask again, without those that are 0
 abbrev pub links : Table
-links = by_key (codes "links") 14 (must (codes "system") Text ∷ must (codes "below") Integer ∷ []) (1 ∷ []) (to_system ∷ [])
+links = by_key (codes "links") 7 (must (codes "system") Text ∷ must (codes "below") Integer ∷ []) (1 ∷ []) []
 
 -- what was taken from neighbours
 abbrev pub taken : Table
-taken = by_key (codes "taken") 16 (must (codes "system") Text ∷ must (codes "number") Integer ∷ must (codes "mark") Integer ∷ must (codes "job") Integer ∷ []) (1 ∷ 2 ∷ []) (to_system ∷ [])
+taken = by_key (codes "taken") 9 (must (codes "system") Text ∷ must (codes "number") Integer ∷ must (codes "mark") Integer ∷ must (codes "job") Integer ∷ []) (1 ∷ 2 ∷ []) []
 
 -- ---- schemas, from none to all
 
@@ -85,71 +54,30 @@ schema_with_spool = record { tables = spool ∷ []; indexes = []; views = [] }
 abbrev pub schema_with_systems : Schema
 schema_with_systems = record { tables = spool ∷ systems ∷ []; indexes = automatic systems 0 (1 ∷ []) 2 ∷ []; views = [] }
 
-abbrev pub schema_with_lines : Schema
-schema_with_lines = record { tables = spool ∷ systems ∷ lines ∷ []; indexes = automatic systems 0 (1 ∷ []) 2 ∷ automatic lines 0 (1 ∷ 2 ∷ []) 4 ∷ []; views = [] }
-
-abbrev pub schema_with_ranges : Schema
-schema_with_ranges = record {
-  tables = spool ∷ systems ∷ lines ∷ ranges ∷ [];
-  indexes = automatic systems 0 (1 ∷ []) 2 ∷ automatic lines 0 (1 ∷ 2 ∷ []) 4 ∷ automatic ranges 0 (1 ∷ 2 ∷ 3 ∷ []) 6 ∷ [];
-  views = [];
-}
-
 abbrev pub schema_with_jobs : Schema
-schema_with_jobs = record {
-  tables = spool ∷ systems ∷ lines ∷ ranges ∷ jobs ∷ [];
-  indexes = automatic systems 0 (1 ∷ []) 2 ∷ automatic lines 0 (1 ∷ 2 ∷ []) 4 ∷ automatic ranges 0 (1 ∷ 2 ∷ 3 ∷ []) 6 ∷ [];
-  views = [];
-}
+schema_with_jobs = record { tables = spool ∷ systems ∷ jobs ∷ []; indexes = automatic systems 0 (1 ∷ []) 2 ∷ []; views = [] }
 
-abbrev pub schema_with_pieces : Schema
-schema_with_pieces = record {
-  tables = spool ∷ systems ∷ lines ∷ ranges ∷ jobs ∷ pieces ∷ [];
-  indexes = automatic systems 0 (1 ∷ []) 2 ∷ automatic lines 0 (1 ∷ 2 ∷ []) 4 ∷ automatic ranges 0 (1 ∷ 2 ∷ 3 ∷ []) 6 ∷ automatic pieces 0 (1 ∷ 2 ∷ []) 9 ∷ [];
-  views = [];
-}
+abbrev pub schema_with_bodies : Schema
+schema_with_bodies = record { tables = spool ∷ systems ∷ jobs ∷ bodies ∷ []; indexes = automatic systems 0 (1 ∷ []) 2 ∷ []; views = [] }
 
--- version 1
-abbrev pub first_schema : Schema
-first_schema = record {
-  tables = spool ∷ systems ∷ lines ∷ ranges ∷ jobs ∷ pieces ∷ entries ∷ [];
-  indexes =
-      automatic systems 0 (1 ∷ []) 2 ∷ automatic lines 0 (1 ∷ 2 ∷ []) 4 ∷ automatic ranges 0 (1 ∷ 2 ∷ 3 ∷ []) 6 ∷ automatic pieces 0 (1 ∷ 2 ∷ []) 9
-      ∷ automatic entries 0 (1 ∷ []) 11 ∷ [];
-  views = [];
-}
-
--- version 2
-abbrev pub second_schema : Schema
-second_schema = record {
-  tables = spool ∷ systems ∷ lines ∷ ranges ∷ jobs ∷ pieces ∷ entries ∷ success_waits ∷ [];
-  indexes =
-      automatic systems 0 (1 ∷ []) 2 ∷ automatic lines 0 (1 ∷ 2 ∷ []) 4 ∷ automatic ranges 0 (1 ∷ 2 ∷ 3 ∷ []) 6 ∷ automatic pieces 0 (1 ∷ 2 ∷ []) 9
-      ∷ automatic entries 0 (1 ∷ []) 11 ∷ automatic success_waits 0 (1 ∷ []) 13 ∷ [];
+abbrev pub schema_with_entries : Schema
+schema_with_entries = record {
+  tables = spool ∷ systems ∷ jobs ∷ bodies ∷ entries ∷ [];
+  indexes = automatic systems 0 (1 ∷ []) 2 ∷ automatic entries 0 (1 ∷ []) 6 ∷ [];
   views = [];
 }
 
 abbrev pub schema_with_links : Schema
 schema_with_links = record {
-  tables = spool ∷ systems ∷ lines ∷ ranges ∷ jobs ∷ pieces ∷ entries ∷ success_waits ∷ links ∷ [];
-  indexes =
-      automatic systems 0 (1 ∷ []) 2 ∷ automatic lines 0 (1 ∷ 2 ∷ []) 4 ∷ automatic ranges 0 (1 ∷ 2 ∷ 3 ∷ []) 6 ∷ automatic pieces 0 (1 ∷ 2 ∷ []) 9
-      ∷ automatic entries 0 (1 ∷ []) 11 ∷ automatic success_waits 0 (1 ∷ []) 13 ∷ automatic links 0 (1 ∷ []) 15 ∷ [];
+  tables = spool ∷ systems ∷ jobs ∷ bodies ∷ entries ∷ links ∷ [];
+  indexes = automatic systems 0 (1 ∷ []) 2 ∷ automatic entries 0 (1 ∷ []) 6 ∷ automatic links 0 (1 ∷ []) 8 ∷ [];
   views = [];
 }
 
--- the whole, version 3
+-- the whole
 abbrev pub spool_schema : Schema
 spool_schema = record {
-  tables = spool ∷ systems ∷ lines ∷ ranges ∷ jobs ∷ pieces ∷ entries ∷ success_waits ∷ links ∷ taken ∷ [];
-  indexes =
-      automatic systems 0 (1 ∷ []) 2 ∷ automatic lines 0 (1 ∷ 2 ∷ []) 4 ∷ automatic ranges 0 (1 ∷ 2 ∷ 3 ∷ []) 6 ∷ automatic pieces 0 (1 ∷ 2 ∷ []) 9
-      ∷ automatic entries 0 (1 ∷ []) 11 ∷ automatic success_waits 0 (1 ∷ []) 13 ∷ automatic links 0 (1 ∷ []) 15 ∷ automatic taken 0 (1 ∷ 2 ∷ []) 17 ∷ [];
+  tables = spool ∷ systems ∷ jobs ∷ bodies ∷ entries ∷ links ∷ taken ∷ [];
+  indexes = automatic systems 0 (1 ∷ []) 2 ∷ automatic entries 0 (1 ∷ []) 6 ∷ automatic links 0 (1 ∷ []) 8 ∷ automatic taken 0 (1 ∷ 2 ∷ []) 10 ∷ [];
   views = [];
 }
-
--- that of a version
-abbrev pub schema_of : Version → Schema
-schema_of First = first_schema
-schema_of Second = second_schema
-schema_of Third = spool_schema

@@ -1,6 +1,6 @@
 // The versions of the tables.
 
-/// The versions of the tables that can be read. The third is the one that is made and written.
+/// The versions of the tables that can be read. The fourth is the one that is made and written.
 #[derive(Clone, Copy, Debug, PartialEq, Eq)]
 pub enum Version {
     /// Seven tables. Each success wait is 0.
@@ -9,4 +9,7 @@ pub enum Version {
     Second,
     /// With tables of the links, and of the jobs taken by them.
     Third,
+    /// A system's definition is in its row, and a job's bytes are in one row. No row refers to
+    /// another.
+    Fourth,
 }

@@ -179,9 +179,9 @@ module _ {K X : Type 0} (key : X → K) (cells : X → Row) (places : List ℕ) 
       apart = ascending-filter (λ a b. key a ≢ key b) (λ x. not (p x)) xs h.apart;
     }
 
-    module _ (f : X → X) (same_key : (x : X) → key (f x) ≡ key x) where
+    module _ (f : X → X) (same_key : (x : X) → p x ≡ true → key (f x) ≡ key x) where
       kept : (y : X) → key (cond (p y) (f y) y) ≡ key y
-      kept y = elim (p y) as (λ b. key (cond b (f y) y) ≡ key y) [ true ↦ same_key y | false ↦ refl ]
+      kept y = elim (cases_Bool (p y)) [ inl here ↦ rw here (same_key y here) | inr other ↦ rw other refl ]
 
       -- one row gives way to another
       pub altered : (xs : List X) (rows : List Row) → Keyed key cells places xs rows → (x : X) → filter p xs ≡ x ∷ [] → (was row : Row) → filter q rows ≡ was ∷ [] → (id : ℤ) → rowid was ≡ Int id → rowid row ≡ Int id

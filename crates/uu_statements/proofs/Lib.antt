@@ -6,8 +6,6 @@ pub mod Unique
 pub mod Statements
 pub mod Added
 pub mod Altered
-pub mod Deeds
-pub mod Lost
 pub mod Removed
 pub mod Joined
 pub mod Loop

@@ -12,7 +12,7 @@ use Rattle.sqlite.specs.Listing.{understood}
 use Rattle.sqlite.proofs.Callers.{IsPlain, command_of}
 use Rattle.uu_schema.proofs.Terms.{over, where_is}
 use Rattle.uu_schema.specs.Schema.{spool_schema}
-use Rattle.uu_statements.proofs.Texts.{insert_system, set_retries, set_calls, delete_system, insert_line, delete_lines, insert_range, insert_job, set_rank, set_second, delete_job, insert_piece, insert_entry, delete_entry, insert_wait, delete_wait, insert_link, delete_link, insert_taken, delete_taken, set_number}
+use Rattle.uu_statements.proofs.Texts.{insert_system, update_definition, set_calls, delete_system, insert_job, set_rank, set_second, delete_job, insert_body, delete_body, insert_entry, delete_entry, insert_link, delete_link, insert_taken, delete_taken, forget_taken, set_number}
 
 abbrev pub insert_system_terms : List Term
 insert_system_terms = lit Null ∷ col 0 0 ∷ col 0 1 ∷ lit (Int (pos 0)) ∷ lit (Int (pos 0)) ∷ lit (Int (pos 0)) ∷ lit (Int (pos 0)) ∷ lit Null ∷ []
@@ -25,16 +25,16 @@ pub insert_system_plain : IsPlain (understood spool_schema insert_system)
 unfolding understood everything
 insert_system_plain = (refl, refl)
 
-abbrev pub set_retries_terms : List Term
-set_retries_terms = col 1 0 ∷ col 1 0 ∷ col 1 1 ∷ col 0 1 ∷ col 1 3 ∷ col 1 4 ∷ col 1 5 ∷ col 1 6 ∷ col 1 7 ∷ []
+abbrev pub update_definition_terms : List Term
+update_definition_terms = col 1 0 ∷ col 1 0 ∷ col 1 1 ∷ col 0 1 ∷ col 1 3 ∷ col 1 4 ∷ col 1 5 ∷ col 1 6 ∷ col 1 7 ∷ []
 
-pub set_retries_is : command_of (understood spool_schema set_retries) ≡ Update 1 (record { lets = []; body = over 1 (where_is 1 0 ∷ []) set_retries_terms })
+pub update_definition_is : command_of (understood spool_schema update_definition) ≡ Update 1 (record { lets = []; body = over 1 (where_is 1 0 ∷ []) update_definition_terms })
 unfolding understood everything
-set_retries_is = refl
+update_definition_is = refl
 
-pub set_retries_plain : IsPlain (understood spool_schema set_retries)
+pub update_definition_plain : IsPlain (understood spool_schema update_definition)
 unfolding understood everything
-set_retries_plain = (refl, refl)
+update_definition_plain = (refl, refl)
 
 abbrev pub set_calls_terms : List Term
 set_calls_terms = col 1 0 ∷ col 1 0 ∷ col 1 1 ∷ col 1 2 ∷ col 0 1 ∷ col 0 2 ∷ col 0 3 ∷ col 0 4 ∷ col 0 5 ∷ []
@@ -55,40 +55,10 @@ pub delete_system_plain : IsPlain (understood spool_schema delete_system)
 unfolding understood everything
 delete_system_plain = (refl, refl)
 
-abbrev pub insert_line_terms : List Term
-insert_line_terms = lit Null ∷ col 0 0 ∷ col 0 1 ∷ col 0 2 ∷ col 0 3 ∷ []
-
-pub insert_line_is : command_of (understood spool_schema insert_line) ≡ Insert 2 (Values insert_line_terms 5)
-unfolding understood everything
-insert_line_is = refl
-
-pub insert_line_plain : IsPlain (understood spool_schema insert_line)
-unfolding understood everything
-insert_line_plain = (refl, refl)
-
-pub delete_lines_is : command_of (understood spool_schema delete_lines) ≡ Delete 2 (record { lets = []; body = over 3 (where_is 1 0 ∷ []) (col 1 0 ∷ []) })
-unfolding understood everything
-delete_lines_is = refl
-
-pub delete_lines_plain : IsPlain (understood spool_schema delete_lines)
-unfolding understood everything
-delete_lines_plain = (refl, refl)
-
-abbrev pub insert_range_terms : List Term
-insert_range_terms = lit Null ∷ col 0 0 ∷ col 0 1 ∷ col 0 2 ∷ col 0 3 ∷ []
-
-pub insert_range_is : command_of (understood spool_schema insert_range) ≡ Insert 3 (Values insert_range_terms 5)
-unfolding understood everything
-insert_range_is = refl
-
-pub insert_range_plain : IsPlain (understood spool_schema insert_range)
-unfolding understood everything
-insert_range_plain = (refl, refl)
-
 abbrev pub insert_job_terms : List Term
 insert_job_terms = col 0 0 ∷ lit Null ∷ col 0 1 ∷ col 0 2 ∷ col 0 3 ∷ col 0 4 ∷ col 0 5 ∷ col 0 6 ∷ col 0 7 ∷ col 0 8 ∷ []
 
-pub insert_job_is : command_of (understood spool_schema insert_job) ≡ Insert 4 (Values insert_job_terms 10)
+pub insert_job_is : command_of (understood spool_schema insert_job) ≡ Insert 2 (Values insert_job_terms 10)
 unfolding understood everything
 insert_job_is = refl
 
@@ -99,7 +69,7 @@ insert_job_plain = (refl, refl)
 abbrev pub set_rank_terms : List Term
 set_rank_terms = col 1 0 ∷ col 1 0 ∷ lit Null ∷ col 1 2 ∷ col 0 1 ∷ col 1 4 ∷ col 1 5 ∷ col 1 6 ∷ col 1 7 ∷ col 1 8 ∷ col 1 9 ∷ []
 
-pub set_rank_is : command_of (understood spool_schema set_rank) ≡ Update 4 (record { lets = []; body = over 7 (where_is 0 0 ∷ []) set_rank_terms })
+pub set_rank_is : command_of (understood spool_schema set_rank) ≡ Update 2 (record { lets = []; body = over 3 (where_is 0 0 ∷ []) set_rank_terms })
 unfolding understood everything
 set_rank_is = refl
 
@@ -110,7 +80,7 @@ set_rank_plain = (refl, refl)
 abbrev pub set_second_terms : List Term
 set_second_terms = col 1 0 ∷ col 1 0 ∷ lit Null ∷ col 1 2 ∷ col 1 3 ∷ col 1 4 ∷ col 1 5 ∷ col 0 1 ∷ col 1 7 ∷ col 1 8 ∷ col 1 9 ∷ []
 
-pub set_second_is : command_of (understood spool_schema set_second) ≡ Update 4 (record { lets = []; body = over 7 (where_is 0 0 ∷ []) set_second_terms })
+pub set_second_is : command_of (understood spool_schema set_second) ≡ Update 2 (record { lets = []; body = over 3 (where_is 0 0 ∷ []) set_second_terms })
 unfolding understood everything
 set_second_is = refl
 
@@ -118,7 +88,7 @@ pub set_second_plain : IsPlain (understood spool_schema set_second)
 unfolding understood everything
 set_second_plain = (refl, refl)
 
-pub delete_job_is : command_of (understood spool_schema delete_job) ≡ Delete 4 (record { lets = []; body = over 7 (where_is 0 0 ∷ []) (col 1 0 ∷ []) })
+pub delete_job_is : command_of (understood spool_schema delete_job) ≡ Delete 2 (record { lets = []; body = over 3 (where_is 0 0 ∷ []) (col 1 0 ∷ []) })
 unfolding understood everything
 delete_job_is = refl
 
@@ -126,21 +96,29 @@ pub delete_job_plain : IsPlain (understood spool_schema delete_job)
 unfolding understood everything
 delete_job_plain = (refl, refl)
 
-abbrev pub insert_piece_terms : List Term
-insert_piece_terms = lit Null ∷ col 0 0 ∷ col 0 1 ∷ col 0 2 ∷ []
+abbrev pub insert_body_terms : List Term
+insert_body_terms = col 0 0 ∷ lit Null ∷ col 0 1 ∷ []
 
-pub insert_piece_is : command_of (understood spool_schema insert_piece) ≡ Insert 5 (Values insert_piece_terms 4)
+pub insert_body_is : command_of (understood spool_schema insert_body) ≡ Insert 3 (Values insert_body_terms 3)
 unfolding understood everything
-insert_piece_is = refl
+insert_body_is = refl
 
-pub insert_piece_plain : IsPlain (understood spool_schema insert_piece)
+pub insert_body_plain : IsPlain (understood spool_schema insert_body)
 unfolding understood everything
-insert_piece_plain = (refl, refl)
+insert_body_plain = (refl, refl)
+
+pub delete_body_is : command_of (understood spool_schema delete_body) ≡ Delete 3 (record { lets = []; body = over 4 (where_is 0 0 ∷ []) (col 1 0 ∷ []) })
+unfolding understood everything
+delete_body_is = refl
+
+pub delete_body_plain : IsPlain (understood spool_schema delete_body)
+unfolding understood everything
+delete_body_plain = (refl, refl)
 
 abbrev pub insert_entry_terms : List Term
 insert_entry_terms = lit Null ∷ col 0 0 ∷ col 0 1 ∷ []
 
-pub insert_entry_is : command_of (understood spool_schema insert_entry) ≡ Insert 6 (Values insert_entry_terms 3)
+pub insert_entry_is : command_of (understood spool_schema insert_entry) ≡ Insert 4 (Values insert_entry_terms 3)
 unfolding understood everything
 insert_entry_is = refl
 
@@ -148,7 +126,7 @@ pub insert_entry_plain : IsPlain (understood spool_schema insert_entry)
 unfolding understood everything
 insert_entry_plain = (refl, refl)
 
-pub delete_entry_is : command_of (understood spool_schema delete_entry) ≡ Delete 6 (record { lets = []; body = over 10 (where_is 1 0 ∷ []) (col 1 0 ∷ []) })
+pub delete_entry_is : command_of (understood spool_schema delete_entry) ≡ Delete 4 (record { lets = []; body = over 5 (where_is 1 0 ∷ []) (col 1 0 ∷ []) })
 unfolding understood everything
 delete_entry_is = refl
 
@@ -156,29 +134,10 @@ pub delete_entry_plain : IsPlain (understood spool_schema delete_entry)
 unfolding understood everything
 delete_entry_plain = (refl, refl)
 
-abbrev pub insert_wait_terms : List Term
-insert_wait_terms = lit Null ∷ col 0 0 ∷ col 0 1 ∷ []
-
-pub insert_wait_is : command_of (understood spool_schema insert_wait) ≡ Insert 7 (Values insert_wait_terms 3)
-unfolding understood everything
-insert_wait_is = refl
-
-pub insert_wait_plain : IsPlain (understood spool_schema insert_wait)
-unfolding understood everything
-insert_wait_plain = (refl, refl)
-
-pub delete_wait_is : command_of (understood spool_schema delete_wait) ≡ Delete 7 (record { lets = []; body = over 12 (where_is 1 0 ∷ []) (col 1 0 ∷ []) })
-unfolding understood everything
-delete_wait_is = refl
-
-pub delete_wait_plain : IsPlain (understood spool_schema delete_wait)
-unfolding understood everything
-delete_wait_plain = (refl, refl)
-
 abbrev pub insert_link_terms : List Term
 insert_link_terms = lit Null ∷ col 0 0 ∷ col 0 1 ∷ []
 
-pub insert_link_is : command_of (understood spool_schema insert_link) ≡ Insert 8 (Values insert_link_terms 3)
+pub insert_link_is : command_of (understood spool_schema insert_link) ≡ Insert 5 (Values insert_link_terms 3)
 unfolding understood everything
 insert_link_is = refl
 
@@ -186,7 +145,7 @@ pub insert_link_plain : IsPlain (understood spool_schema insert_link)
 unfolding understood everything
 insert_link_plain = (refl, refl)
 
-pub delete_link_is : command_of (understood spool_schema delete_link) ≡ Delete 8 (record { lets = []; body = over 14 (where_is 1 0 ∷ []) (col 1 0 ∷ []) })
+pub delete_link_is : command_of (understood spool_schema delete_link) ≡ Delete 5 (record { lets = []; body = over 7 (where_is 1 0 ∷ []) (col 1 0 ∷ []) })
 unfolding understood everything
 delete_link_is = refl
 
@@ -197,7 +156,7 @@ delete_link_plain = (refl, refl)
 abbrev pub insert_taken_terms : List Term
 insert_taken_terms = lit Null ∷ col 0 0 ∷ col 0 1 ∷ col 0 2 ∷ col 0 3 ∷ []
 
-pub insert_taken_is : command_of (understood spool_schema insert_taken) ≡ Insert 9 (Values insert_taken_terms 5)
+pub insert_taken_is : command_of (understood spool_schema insert_taken) ≡ Insert 6 (Values insert_taken_terms 5)
 unfolding understood everything
 insert_taken_is = refl
 
@@ -205,17 +164,25 @@ pub insert_taken_plain : IsPlain (understood spool_schema insert_taken)
 unfolding understood everything
 insert_taken_plain = (refl, refl)
 
--- of this system, with a number below this one
-abbrev pub forgotten_terms : List Term
-forgotten_terms = where_is 1 0 ∷ op2 (Compare Lt Binary) (col 1 2) (col 0 1) ∷ []
-
-pub delete_taken_is : command_of (understood spool_schema delete_taken) ≡ Delete 9 (record { lets = []; body = over 16 forgotten_terms (col 1 0 ∷ []) })
+pub delete_taken_is : command_of (understood spool_schema delete_taken) ≡ Delete 6 (record { lets = []; body = over 9 (where_is 1 0 ∷ []) (col 1 0 ∷ []) })
 unfolding understood everything
 delete_taken_is = refl
 
 pub delete_taken_plain : IsPlain (understood spool_schema delete_taken)
 unfolding understood everything
 delete_taken_plain = (refl, refl)
+
+-- of this system, with a number below this one
+abbrev pub forget_taken_terms : List Term
+forget_taken_terms = where_is 1 0 ∷ op2 (Compare Lt Binary) (col 1 2) (col 0 1) ∷ []
+
+pub forget_taken_is : command_of (understood spool_schema forget_taken) ≡ Delete 6 (record { lets = []; body = over 9 forget_taken_terms (col 1 0 ∷ []) })
+unfolding understood everything
+forget_taken_is = refl
+
+pub forget_taken_plain : IsPlain (understood spool_schema forget_taken)
+unfolding understood everything
+forget_taken_plain = (refl, refl)
 
 abbrev pub set_number_terms : List Term
 set_number_terms = col 1 0 ∷ col 1 0 ∷ lit Null ∷ col 1 2 ∷ col 0 0 ∷ []

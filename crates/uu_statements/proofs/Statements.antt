@@ -23,9 +23,8 @@ use Rattle.sqlite.specs.Rowids.TheVariants.{Given}
 use Rattle.sqlite.specs.Program.{overlay}
 use Rattle.sqlite_value.specs.Keys.{plain}
 use Rattle.sqlite_value.proofs.OrderLemmas.{value_cmp_total}
-use Rattle.sqlite_schema.specs.Rules.{agree, clashes, Fits, Refers}
+use Rattle.sqlite_schema.specs.Rules.{agree, clashes, Fits}
 use Rattle.sqlite_schema.specs.declared.schema.Keys.TheVariants.{Enforced}
-use Rattle.sqlite_schema.specs.declared.schema.Among.TheVariants.{All}
 use Rattle.sqlite_schema.specs.declared.program.Program.{Program}
 use Rattle.sqlite_rules.specs.Action.{works, Writes as WritesTrees}
 use Rattle.sqlite_rules.specs.Calls.{ids_of}
@@ -41,14 +40,15 @@ use Rattle.uu_names.proofs.Basics.{one_mapped}
 use Rattle.uu_schema.specs.Rowids.{AreNumbered}
 use Rattle.uu_schema.specs.Steps.{Stands}
 use Rattle.uu_schema.proofs.Terms.{over}
-use Rattle.uu_schema.proofs.Rows.{cast_int, cast_null, over_rows}
+use Rattle.uu_schema.proofs.Rows.{over_rows}
+use Rattle.uu_schema.proofs.Rowids.{picked_gone}
 use Rattle.uu_schema.proofs.Writes.{insert_ran, insert_applies, inserted, update_ran, update_writes, delete_ran, delete_writes}
-use Rattle.uu_tables.specs.Changes.{alter}
+use Rattle.uu_tables.specs.Changes.{alter, without}
 use Rattle.uu_schema.specs.Schema.{spool_schema}
 use Rattle.uu_schema.specs.Keyed.{columns, Keyed}
 use Rattle.uu_schema.specs.Made.{KeepsOtherTables}
 use Rattle.uu_schema.proofs.Keeps.{keeps_one}
-use Rattle.uu_statements.proofs.Keyed.{reordered, one_more, picked, picked_rows, altered, none_change, no_permutation, none_mapped}
+use Rattle.uu_statements.proofs.Keyed.{reordered, one_more, picked, picked_rows, altered, fewer, none_change, no_permutation, none_mapped}
 use Rattle.uu_statements.proofs.Unique.{fresh_key}
 
 -- ---- keys that are new
@@ -107,12 +107,12 @@ module _ (old new : State) (stands : Stands spool_schema old.now) (sql : List �
   puts id row = record { table = table; gone = id ∷ []; news = row ∷ [] }
 
   module _ {K X : Type 0} (key : X → K) (cells : X → Row) (places : List ℕ) (p : X → Bool) (q test : Row → Bool) (on_cells : (x : X) → test (cells x) ≡ p x) (on_rows : (r : Row) → test (columns places r) ≡ q r)
-      (one : (x y : X) → p x ≡ true → p y ≡ true → key x ≡ key y) (f : X → X) (same_key : (x : X) → key (f x) ≡ key x) where
+      (one : (x y : X) → p x ≡ true → p y ≡ true → key x ≡ key y) (f : X → X) (same_key : (x : X) → p x ≡ true → key (f x) ≡ key x) where
     pub row_altered : (tests terms : List Term) → command_of (understood spool_schema sql) ≡ Update at (record { lets = []; body = over bare.tree tests terms }) → IsPlain (understood spool_schema sql) → Executes sql params old new (Ok count)
         → overlay db [] bare.tree ≡ rows → (AreNumbered rows → filter (λ r. list_all (holds (params ∷ r ∷ [])) tests) rows ≡ filter q rows) → (row : X → ℤ → Row)
         → ((x : X) (was : Row) (id : ℤ) → rowid was ≡ Int id → columns places was ≡ cells x → eval_all terms (params ∷ was ∷ []) ≡ Int id ∷ row x id)
         → ((x : X) (id : ℤ) → edit_of db table (id ∷ []) Given 1 ((Int id ∷ row x id) ∷ []) ≡ puts id (row x id)) → ((x : X) (id : ℤ) → rowid (row x id) ≡ Int id)
-        → ((x : X) (was : Row) (id : ℤ) → rowid was ≡ Int id → columns places was ≡ cells x → columns places (row x id) ≡ cells (f x)) → ((olds : List Row) (r : Row) → works spool_schema Enforced 0 bare.tree olds (r ∷ []) ≡ [])
+        → ((x : X) (was : Row) (id : ℤ) → p x ≡ true → rowid was ≡ Int id → columns places was ≡ cells x → columns places (row x id) ≡ cells (f x)) → ((olds : List Row) (r : Row) → works spool_schema Enforced 0 bare.tree olds (r ∷ []) ≡ [])
         → Stands spool_schema new.now × ((xs : List X) → Keyed key cells places xs rows → Keyed key cells places (alter p f xs) (next bare.tree) × KeepsOtherTables (bare.tree ∷ []) db next)
     row_altered tests terms is plain h bare_tree finds row evals casts keyed shows none_due =
         let text = statement_of sql (understood spool_schema sql) in
@@ -136,6 +136,7 @@ module _ (old new : State) (stands : Stands spool_schema old.now) (sql : List �
                     (subst (Keyed key cells places _) (sym a.rows) (subst (λ ys. Keyed key cells places ys rows) (sym (none_change p f xs none)) held), keeps_one edit db next a)
                 | inr only ↦
                     let x = only.0 in
+                    let own : p x ≡ true = (has_filtered p xs x (subst (λ l. Has l x) (sym only.1) (inl refl))).1 in
                     let it = one_mapped (columns places) (filter q rows) (cells x) (one_permutation _ _ (subst (λ l. IsPermutation (map cells l) (map (columns places) (filter q rows))) only.1 matching)) in
                     let was = it.0 in
                     let id = id_in (rowid was) in
@@ -145,7 +146,7 @@ module _ (old new : State) (stands : Stands spool_schema old.now) (sql : List �
                     let did = subst (λ rs. WritesTrees spool_schema Enforced db (edit_of db table (ids_of rs) Given 1 rs) (Ok next)) now wrote.2 in
                     let edit = puts id (row x id) in
                     let a = one_step spool_schema Enforced db next edit (none_due (taken_by db edit) (row x id)) (subst (λ (e : Edit). WritesTrees spool_schema Enforced db e (Ok next)) (casts x id) did) in
-                    (subst (Keyed key cells places _) (sym a.rows) (altered key cells places p q test on_cells on_rows f same_key xs rows held x only.1 was (row x id) it.1 id old_key (keyed x id) (shows x was id old_key it.2)), keeps_one edit db next a)
+                    (subst (Keyed key cells places _) (sym a.rows) (altered key cells places p q test on_cells on_rows f same_key xs rows held x only.1 was (row x id) it.1 id old_key (keyed x id) (shows x was id own old_key it.2)), keeps_one edit db next a)
               ],
         )
 
@@ -154,29 +155,26 @@ module _ (old new : State) (stands : Stands spool_schema old.now) (sql : List �
   abbrev pub takes : List ℤ → Edit
   takes ids = record { table = table; gone = ids; news = [] }
 
-  -- those that pass the tests, by their rowids; what is left obeys the references
-  pub record Took (tests : List Term) : Type 0 where
-    pub now_stands : Stands spool_schema new.now
-    pub shown : List Row
-    pub order : IsPermutation (map (λ r. column r 0 ∷ []) (filter (λ r. list_all (holds (params ∷ r ∷ [])) tests) rows)) shown
-    pub wrote : WritesTrees spool_schema Enforced db (takes (ids_of shown)) (Ok next)
-    pub refers : Refers All spool_schema next
-
-  pub took : (tests : List Term) → command_of (understood spool_schema sql) ≡ Delete at (record { lets = []; body = over bare.tree tests (col 1 0 ∷ []) }) → IsPlain (understood spool_schema sql) → Executes sql params old new (Ok count)
-      → overlay db [] bare.tree ≡ rows → Took tests
-  took tests is plain h bare_tree =
-      let text = statement_of sql (understood spool_schema sql) in
-      let program : Program = record { lets = []; body = over bare.tree tests (col 1 0 ∷ []) } in
-      let w = runs_as sql params old new spool_schema stands.schema (Delete at program) is plain count h in
-      let ran = delete_ran old new spool_schema stands.schema at bare found text params count program w in
-      let wrote = delete_writes old new spool_schema stands.schema at bare found text params count program ran in
-      record {
-        now_stands = ran.stands;
-        shown = wrote.0;
-        order = over_rows db bare.tree tests (col 1 0 ∷ []) params wrote.0 bare_tree (wrote.1.answer Null);
-        wrote = wrote.2;
-        refers = subst (Refers All spool_schema) (sym ran.trees) ran.refers;
-      }
+  -- those that pass; no row refers to them, so nothing else differs
+  module _ {K X : Type 0} (key : X → K) (cells : X → Row) (places : List ℕ) (p : X → Bool) (q test : Row → Bool) (on_cells : (x : X) → test (cells x) ≡ p x) (on_rows : (r : Row) → test (columns places r) ≡ q r) where
+    pub rows_gone : (tests : List Term) → command_of (understood spool_schema sql) ≡ Delete at (record { lets = []; body = over bare.tree tests (col 1 0 ∷ []) }) → IsPlain (understood spool_schema sql) → Executes sql params old new (Ok count)
+        → overlay db [] bare.tree ≡ rows → ((xs : List X) → Keyed key cells places xs rows → filter (λ r. list_all (holds (params ∷ r ∷ [])) tests) rows ≡ filter q rows) → ((olds : List Row) → works spool_schema Enforced 0 bare.tree olds [] ≡ [])
+        → Stands spool_schema new.now × ((xs : List X) → Keyed key cells places xs rows → Keyed key cells places (without p xs) (next bare.tree) × KeepsOtherTables (bare.tree ∷ []) db next)
+    rows_gone tests is plain h bare_tree finds none_due =
+        let text = statement_of sql (understood spool_schema sql) in
+        let program : Program = record { lets = []; body = over bare.tree tests (col 1 0 ∷ []) } in
+        let w = runs_as sql params old new spool_schema stands.schema (Delete at program) is plain count h in
+        let ran = delete_ran old new spool_schema stands.schema at bare found text params count program w in
+        let wrote = delete_writes old new spool_schema stands.schema at bare found text params count program ran in
+        let order = over_rows db bare.tree tests (col 1 0 ∷ []) params wrote.0 bare_tree (wrote.1.answer Null) in
+        let edit = takes (ids_of wrote.0) in
+        let a = one_step spool_schema Enforced db next edit (none_due (taken_by db edit)) wrote.2 in (
+          ran.stands,
+          λ xs held.
+              let shown = subst (λ l. IsPermutation l wrote.0) (ap (map (λ r. column r 0 ∷ [])) (finds xs held)) order in
+              let left : next bare.tree ≡ filter (λ r. not (q r)) rows = a.rows ∙ picked_gone q rows wrote.0 held.once held.numbered shown in
+              (subst (Keyed key cells places _) (sym left) (fewer key cells places p q test on_cells on_rows xs rows held), keeps_one edit db next a),
+        )
 
 -- ---- values that may be NULL
 
@@ -184,15 +182,7 @@ pub cast_text : (text : Option (List ℕ)) → cast kind.Text (or_null Text text
 cast_text None = refl
 cast_text (Some t) = refl
 
-pub cast_number : (number : Option ℕ) → cast kind.Integer (or_null (λ n. Int (pos n)) number) ≡ or_null (λ n. Int (pos n)) number
-cast_number None = cast_null
-cast_number (Some n) = cast_int (pos n)
-
 -- what is bound of them
 pub bound_text : (text : Option (Bor (List ℕ))) (value : Value) → value ≡ or_null (λ t. Text t.now) text → bound_value value ≡ or_null Text (option_map (λ t. t.now) text)
 bound_text None value is = ap bound_value is
 bound_text (Some text) value is = ap bound_value is
-
-pub bound_number : (number : Option ℕ) (value : Value) → value ≡ or_null (λ n. Int (pos n)) number → bound_value value ≡ or_null (λ n. Int (pos n)) number
-bound_number None value is = ap bound_value is
-bound_number (Some n) value is = ap bound_value is

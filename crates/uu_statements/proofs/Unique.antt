@@ -23,7 +23,7 @@ use Rattle.sqlite_keyed.proofs.ListLemmas.{none_from_any}
 use Rattle.uu_schema.specs.Rowids.{AreNumbered}
 use Rattle.uu_schema.proofs.Rows.{put_permutes}
 use Rattle.uu_schema.proofs.Rowids.{has_moved}
-use Rattle.uu_schema.specs.Schema.{spool_schema, systems, lines, ranges, pieces, entries, success_waits, links, taken}
+use Rattle.uu_schema.specs.Schema.{spool_schema, systems, entries, links, taken}
 
 turned : (o : Ordering) → is_eq o ≡ false → is_ne (ordering_reverse o) ≡ true
 turned Less h = refl
@@ -67,26 +67,14 @@ no_reference e = absurd (cc)
 pub unique_systems : (db : Trees) → Fits spool_schema db → (s : Row) → Has (db systems.tree) s → clashes plain (1 ∷ []) (db systems.tree) s ≡ false
 unique_systems db fits s there = not-true _ (and_parts _ true (all_has _ (db systems.tree) s (fits.rules Unique no_reference).1.0 there)).0
 
-pub unique_lines : (db : Trees) → Fits spool_schema db → (s : Row) → Has (db lines.tree) s → clashes plain (1 ∷ 2 ∷ []) (db lines.tree) s ≡ false
-unique_lines db fits s there = not-true _ (and_parts _ true (all_has _ (db lines.tree) s (fits.rules Unique no_reference).1.1.0 there)).0
-
-pub unique_ranges : (db : Trees) → Fits spool_schema db → (s : Row) → Has (db ranges.tree) s → clashes plain (1 ∷ 2 ∷ 3 ∷ []) (db ranges.tree) s ≡ false
-unique_ranges db fits s there = not-true _ (and_parts _ true (all_has _ (db ranges.tree) s (fits.rules Unique no_reference).1.1.1.0 there)).0
-
-pub unique_pieces : (db : Trees) → Fits spool_schema db → (s : Row) → Has (db pieces.tree) s → clashes plain (1 ∷ 2 ∷ []) (db pieces.tree) s ≡ false
-unique_pieces db fits s there = not-true _ (and_parts _ true (all_has _ (db pieces.tree) s (fits.rules Unique no_reference).1.1.1.1.1.0 there)).0
-
 pub unique_entries : (db : Trees) → Fits spool_schema db → (s : Row) → Has (db entries.tree) s → clashes plain (1 ∷ []) (db entries.tree) s ≡ false
-unique_entries db fits s there = not-true _ (and_parts _ true (all_has _ (db entries.tree) s (fits.rules Unique no_reference).1.1.1.1.1.1.0 there)).0
-
-pub unique_waits : (db : Trees) → Fits spool_schema db → (s : Row) → Has (db success_waits.tree) s → clashes plain (1 ∷ []) (db success_waits.tree) s ≡ false
-unique_waits db fits s there = not-true _ (and_parts _ true (all_has _ (db success_waits.tree) s (fits.rules Unique no_reference).1.1.1.1.1.1.1.0 there)).0
+unique_entries db fits s there = not-true _ (and_parts _ true (all_has _ (db entries.tree) s (fits.rules Unique no_reference).1.1.1.1.0 there)).0
 
 pub unique_links : (db : Trees) → Fits spool_schema db → (s : Row) → Has (db links.tree) s → clashes plain (1 ∷ []) (db links.tree) s ≡ false
-unique_links db fits s there = not-true _ (and_parts _ true (all_has _ (db links.tree) s (fits.rules Unique no_reference).1.1.1.1.1.1.1.1.0 there)).0
+unique_links db fits s there = not-true _ (and_parts _ true (all_has _ (db links.tree) s (fits.rules Unique no_reference).1.1.1.1.1.0 there)).0
 
 pub unique_taken : (db : Trees) → Fits spool_schema db → (s : Row) → Has (db taken.tree) s → clashes plain (1 ∷ 2 ∷ []) (db taken.tree) s ≡ false
-unique_taken db fits s there = not-true _ (and_parts _ true (all_has _ (db taken.tree) s (fits.rules Unique no_reference).1.1.1.1.1.1.1.1.1.0 there)).0
+unique_taken db fits s there = not-true _ (and_parts _ true (all_has _ (db taken.tree) s (fits.rules Unique no_reference).1.1.1.1.1.1.0 there)).0
 
 -- ---- rows of one key agree
 
@@ -97,12 +85,3 @@ agree_text a b t h k = rw (h, k, equal_text t) refl
 pub agree_text_number : (a b : Row) (t : List ℕ) (n : ℤ) → column a 1 ≡ Text t → column b 1 ≡ Text t → column a 2 ≡ Int n → column b 2 ≡ Int n → agree plain (1 ∷ 2 ∷ []) a (1 ∷ 2 ∷ []) b ≡ true
 unfolding first_key
 agree_text_number a b t n h k i j = rw (h, k, i, j, equal_text t, equal_number n) refl
-
-pub agree_text_numbers : (a b : Row) (t : List ℕ) (m n : ℤ) → column a 1 ≡ Text t → column b 1 ≡ Text t → column a 2 ≡ Int m → column b 2 ≡ Int m → column a 3 ≡ Int n → column b 3 ≡ Int n
-    → agree plain (1 ∷ 2 ∷ 3 ∷ []) a (1 ∷ 2 ∷ 3 ∷ []) b ≡ true
-unfolding first_key
-agree_text_numbers a b t m n h k i j f g = rw (h, k, i, j, f, g, equal_text t, equal_number m, equal_number n) refl
-
-pub agree_numbers : (a b : Row) (m n : ℤ) → column a 1 ≡ Int m → column b 1 ≡ Int m → column a 2 ≡ Int n → column b 2 ≡ Int n → agree plain (1 ∷ 2 ∷ []) a (1 ∷ 2 ∷ []) b ≡ true
-unfolding first_key
-agree_numbers a b m n h k i j = rw (h, k, i, j, equal_number m, equal_number n) refl

@@ -1,7 +1,8 @@
-// The statements on jobs, their pieces and the next number.
+// The statements on jobs, their bytes and the next number.
 ghost use Rattle.uu_schema.specs.Statements.{Writes};
 ghost use Rattle.uu_tables.specs.declared.change.Change.{Change};
-ghost use Rattle.uu_statements.specs.Makes.{Makes};
+ghost use Rattle.uu_tables.specs.Changes.{without, has_number, is_body_of};
+ghost use Rattle.uu_statements.specs.Makes.{Makes, MakesOf};
 ghost use Rattle.uu_statements.specs.Words.{AreKindColumns};
 
 use crate::words::{KindColumns, arguments_of, kind_columns};
@@ -78,23 +79,35 @@ pub(crate) fn set_queued<S: Alter>(
     )
 }
 
-pub(crate) fn remove_job<S: Alter>(tx: &mut Transaction<'_, S>, number: u32) -> Result<usize, Error>
-    ensures { Writes S.Store (Makes (Change.RemoveJob number)) tx.old tx.new result }
+fn delete_job<S: Alter>(tx: &mut Transaction<'_, S>, number: u32) -> Result<usize, Error>
+    ensures { Writes S.Store (MakesOf (λ t. record t { jobs = without (has_number number) t.jobs })) tx.old tx.new result }
 {
     tx.execute("DELETE FROM jobs WHERE number = ?1", params![number])
 }
 
-pub(crate) fn add_piece<S: Alter>(
+fn delete_body<S: Alter>(tx: &mut Transaction<'_, S>, number: u32) -> Result<usize, Error>
+    ensures { Writes S.Store (MakesOf (λ t. record t { bodies = without (is_body_of number) t.bodies })) tx.old tx.new result }
+{
+    tx.execute("DELETE FROM bodies WHERE job = ?1", params![number])
+}
+
+pub(crate) fn remove_job<S: Alter>(tx: &mut Transaction<'_, S>, number: u32) -> Result<usize, Error>
+    ensures { Writes S.Store (Makes (Change.RemoveJob number)) tx.old tx.new result }
+{
+    delete_job(tx, number)?;
+    delete_body(tx, number)
+}
+
+pub(crate) fn add_body<S: Alter>(
     tx: &mut Transaction<'_, S>,
     job: u32,
-    place: u32,
     bytes: &[u8],
 ) -> Result<usize, Error>
-    ensures { Writes S.Store (Makes (Change.AddPiece job place bytes.entry)) tx.old tx.new result }
+    ensures { Writes S.Store (Makes (Change.AddBody job bytes.entry)) tx.old tx.new result }
 {
     tx.execute(
-        "INSERT INTO pieces (job, place, bytes) VALUES (?1, ?2, ?3)",
-        params![job, place, bytes],
+        "INSERT INTO bodies (job, bytes) VALUES (?1, ?2)",
+        params![job, bytes],
     )
 }
 

@@ -2,7 +2,8 @@
 ghost use Rattle.std.specs.Prelude.{◌≡◌, pos};
 ghost use Rattle.uu_schema.specs.Statements.{Writes};
 ghost use Rattle.uu_tables.specs.declared.change.Change.{Change};
-ghost use Rattle.uu_statements.specs.Makes.{Makes};
+ghost use Rattle.uu_tables.specs.Changes.{without, is_link_of, is_taken_of};
+ghost use Rattle.uu_statements.specs.Makes.{Makes, MakesOf};
 
 use sqlite::{Alter, Error, Transaction, params};
 use uu_core::{Mark, Taken};
@@ -84,4 +85,24 @@ pub(crate) fn forget_taken<S: Alter>(
         "DELETE FROM taken WHERE system = ?1 AND number < ?2",
         params![system.as_str(), below],
     )
+}
+
+fn delete_taken<S: Alter>(tx: &mut Transaction<'_, S>, system: &SiteName) -> Result<usize, Error>
+    ensures { Writes S.Store (MakesOf (λ t. record t { taken = without (is_taken_of system.now) t.taken })) tx.old tx.new result }
+{
+    tx.execute(
+        "DELETE FROM taken WHERE system = ?1",
+        params![system.as_str()],
+    )
+}
+
+/// Removes the link of a system: the number below which it won't ask again, and what was taken.
+pub(crate) fn remove_whole_link<S: Alter>(
+    tx: &mut Transaction<'_, S>,
+    system: &SiteName,
+) -> Result<usize, Error>
+    ensures { Writes S.Store (MakesOf (λ t. record t { links = without (is_link_of system.now) t.links; taken = without (is_taken_of system.now) t.taken })) tx.old tx.new result }
+{
+    remove_link(tx, system)?;
+    delete_taken(tx, system)
 }

@@ -2,36 +2,69 @@
 ghost use Rattle.std.specs.Prelude.{◌≡◌, option_map};
 ghost use Rattle.uu_schema.specs.Statements.{Writes};
 ghost use Rattle.uu_tables.specs.declared.change.Change.{Change};
-ghost use Rattle.uu_statements.specs.Makes.{Makes};
+ghost use Rattle.uu_tables.specs.Tables.{definition_text};
+ghost use Rattle.uu_tables.specs.Changes.{without, has_name};
+ghost use Rattle.uu_statements.specs.Makes.{Makes, MakesOf};
 
-use sqlite::{Alter, Error, Transaction, params};
+use crate::links::remove_whole_link;
+use sqlite::{Alter, Error, ErrorCode, Transaction, params};
+use std::alloc::Global;
 use uu_names::SiteName;
-use uu_tables::CallColumns;
+use uu_tables::{CallColumns, definition_text};
 use uu_times::SystemDef;
 
+fn insert_system<S: Alter>(
+    tx: &mut Transaction<'_, S>,
+    def: &SystemDef,
+    text: &[u8],
+) -> Result<usize, Error>
+    requires text { text.now ≡ definition_text def.now }
+    ensures { Writes S.Store (Makes (Change.AddSystem def.entry)) tx.old tx.new result }
+{
+    tx.execute(
+        "INSERT INTO systems (name, definition, last, failures, wait, outcome, why) VALUES (?1, ?2, 0, 0, 0, 0, NULL)",
+        params![def.name.as_str(), text],
+    )
+}
+
 pub(crate) fn add_system<S: Alter>(
+    alloc: Global,
     tx: &mut Transaction<'_, S>,
     def: &SystemDef,
 ) -> Result<usize, Error>
     ensures { Writes S.Store (Makes (Change.AddSystem def.entry)) tx.old tx.new result }
 {
+    match definition_text(alloc, def) {
+        Ok(text) => insert_system(tx, def, text.as_slice()),
+        Err(_) => Err(Error::SqliteFailure(ErrorCode::OutOfMemory)),
+    }
+}
+
+fn update_definition<S: Alter>(
+    tx: &mut Transaction<'_, S>,
+    def: &SystemDef,
+    text: &[u8],
+) -> Result<usize, Error>
+    requires text { text.now ≡ definition_text def.now }
+    ensures { Writes S.Store (Makes (Change.SetDefinition def.entry)) tx.old tx.new result }
+{
     tx.execute(
-        "INSERT INTO systems (name, max_retries, last, failures, wait, outcome, why) VALUES (?1, ?2, 0, 0, 0, 0, NULL)",
-        params![def.name.as_str(), def.max_retries],
+        "UPDATE systems SET definition = ?2 WHERE name = ?1",
+        params![def.name.as_str(), text],
     )
 }
 
-pub(crate) fn set_max_retries<S: Alter>(
+pub(crate) fn set_definition<S: Alter>(
+    alloc: Global,
     tx: &mut Transaction<'_, S>,
-    system: &SiteName,
-    max_retries: u32,
+    def: &SystemDef,
 ) -> Result<usize, Error>
-    ensures { Writes S.Store (Makes (Change.SetMaxRetries system.entry max_retries)) tx.old tx.new result }
+    ensures { Writes S.Store (Makes (Change.SetDefinition def.entry)) tx.old tx.new result }
 {
-    tx.execute(
-        "UPDATE systems SET max_retries = ?2 WHERE name = ?1",
-        params![system.as_str(), max_retries],
-    )
+    match definition_text(alloc, def) {
+        Ok(text) => update_definition(tx, def, text.as_slice()),
+        Err(_) => Err(Error::SqliteFailure(ErrorCode::OutOfMemory)),
+    }
 }
 
 // Why a call failed, if it did.
@@ -65,27 +98,11 @@ pub(crate) fn set_call<S: Alter>(
     )
 }
 
-pub(crate) fn add_success_wait<S: Alter>(
-    tx: &mut Transaction<'_, S>,
-    system: &SiteName,
-    wait: u32,
-) -> Result<usize, Error>
-    ensures { Writes S.Store (Makes (Change.AddSuccessWait system.entry wait)) tx.old tx.new result }
+fn delete_system<S: Alter>(tx: &mut Transaction<'_, S>, system: &SiteName) -> Result<usize, Error>
+    ensures { Writes S.Store (MakesOf (λ t. record t { systems = without (has_name system.now) t.systems })) tx.old tx.new result }
 {
     tx.execute(
-        "INSERT INTO success_waits (system, wait) VALUES (?1, ?2)",
-        params![system.as_str(), wait],
-    )
-}
-
-pub(crate) fn remove_success_wait<S: Alter>(
-    tx: &mut Transaction<'_, S>,
-    system: &SiteName,
-) -> Result<usize, Error>
-    ensures { Writes S.Store (Makes (Change.RemoveSuccessWait system.entry)) tx.old tx.new result }
-{
-    tx.execute(
-        "DELETE FROM success_waits WHERE system = ?1",
+        "DELETE FROM systems WHERE name = ?1",
         params![system.as_str()],
     )
 }
@@ -96,8 +113,6 @@ pub(crate) fn remove_system<S: Alter>(
 ) -> Result<usize, Error>
     ensures { Writes S.Store (Makes (Change.RemoveSystem system.entry)) tx.old tx.new result }
 {
-    tx.execute(
-        "DELETE FROM systems WHERE name = ?1",
-        params![system.as_str()],
-    )
+    delete_system(tx, system)?;
+    remove_whole_link(tx, system)
 }

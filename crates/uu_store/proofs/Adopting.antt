@@ -11,15 +11,16 @@ use Rattle.uu_core.specs.declared.job.NewJob.{NewJob}
 use Rattle.uu_core.specs.State.{State}
 use Rattle.uu_core.specs.Run.{state_after}
 use Rattle.uu_schema.specs.declared.version.Version.{Version}
-use Rattle.uu_schema.specs.declared.version.Version.TheVariants.{First, Second, Third}
-use Rattle.uu_schema.specs.Schema.{schema_of, no_schema}
+use Rattle.uu_schema.specs.declared.version.Version.TheVariants.{First, Second, Third, Fourth}
+use Rattle.uu_schema.specs.Schema.{no_schema}
 use Rattle.uu_schema.specs.declared.fault.StoreFault.{StoreFault}
 use Rattle.uu_store.specs.declared.spool.Spool.{Spool}
 use Rattle.uu_adopt.specs.Adoption.{IsRefused, IsSpared, StopsAs}
-use Rattle.uu_adopt.specs.FoundTables.{HasNone, HasEarlier, IsEarlierVersion}
+use Rattle.uu_adopt.specs.FoundTables.{HasNone, HasEarlier}
 use Rattle.uu_schema.specs.Steps.{StaysUnclean}
 use Rattle.uu_adopt.specs.Becoming.{CreatesTables, MigratesState}
 use Rattle.uu_schema.specs.Encoded.{Encodes, EncodesAs, HoldsState, HoldsStateAs}
+use Rattle.uu_schema.specs.Earlier.{IsEarlierVersion, schema_of}
 use Rattle.uu_store.specs.Kept.{Stores, KeepsOnly}
 use Rattle.uu_store.specs.Spool.{connection_of, has_failed, Shows}
 use Rattle.uu_store.specs.Stretches.{Adopted, TurnedAway, StoresAfter, StretchOver, Led, exchanges_over}
@@ -50,17 +51,18 @@ module _ {S : Type 0} (g : Ghosts S) (was now : Held S) where
   keeps_earlier : (v : Version) → IsEarlierVersion v → (s : State) → StopsAs a b → EncodesAs v a.now s → KeepsOnly b.may_leave s
   keeps_earlier v early s stops enc trees may = elim (stops.earlier v early enc.stands trees may) [
     | inl same ↦ inl (v, subst (IsSound (schema_of v)) (sym same) enc.stands.sound, subst (λ t. HoldsStateAs v t s) (sym same) enc.holds)
-    | inr made ↦ inl (Third, made.0, made.1.again s enc.holds)
+    | inr made ↦ inl (Fourth, made.0, made.1.again s enc.holds)
   ]
 
   -- a stop leaves the state, also if the tables are made
   keeps_as : (s : State) → StopsAs a b → Stores a.now s → KeepsOnly b.may_leave s
   keeps_as s stops (inl (First, enc)) trees may = keeps_earlier First tt s stops enc trees may
   keeps_as s stops (inl (Second, enc)) trees may = keeps_earlier Second tt s stops enc trees may
-  keeps_as s stops (inl (Third, enc)) trees may = let left = stops.state s enc trees may in inl (Third, left.0, left.1)
+  keeps_as s stops (inl (Third, enc)) trees may = keeps_earlier Third tt s stops enc trees may
+  keeps_as s stops (inl (Fourth, enc)) trees may = let left = stops.state s enc trees may in inl (Fourth, left.0, left.1)
   keeps_as s stops (inr none) trees may = elim (stops.none none.0 trees may) [
     | inl same ↦ inr (subst (IsSound no_schema) (sym same) none.0.sound, none.1)
-    | inr made ↦ inl (Third, made.0, subst (HoldsState trees) (sym none.1) made.1)
+    | inr made ↦ inl (Fourth, made.0, subst (HoldsState trees) (sym none.1) made.1)
   ]
 
   pub turned_away_as : (r : Result (Unit {0}) StoreFault) → Settles a → (¬ HasNone a.now.schema → (HasEarlier a.now.schema → IsRefused r) → IsSpared a b r) → ((v : Version) → IsEarlierVersion v → MigratesState v a b r) → CreatesTables a b r → StaysUnclean a b → TurnedAway g was now

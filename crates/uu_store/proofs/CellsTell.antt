@@ -7,16 +7,20 @@ use Rattle.uu_core.specs.declared.job.JobHead.{JobHead}
 use Rattle.uu_core.specs.declared.job.Kind.{Kind}
 use Rattle.uu_core.specs.declared.job.Kind.TheVariants.{Send, Request, Execute}
 use Rattle.uu_tables.specs.declared.rows.SystemColumns.{SystemColumns}
-use Rattle.uu_tables.specs.declared.rows.LineColumns.{LineColumns}
-use Rattle.uu_tables.specs.declared.rows.RangeColumns.{RangeColumns}
+use Rattle.uu_tables.specs.declared.earlier.LineColumns.{LineColumns}
+use Rattle.uu_tables.specs.declared.earlier.RangeColumns.{RangeColumns}
 use Rattle.uu_tables.specs.declared.rows.EntryColumns.{EntryColumns}
-use Rattle.uu_tables.specs.declared.rows.WaitColumns.{WaitColumns}
+use Rattle.uu_tables.specs.declared.earlier.WaitColumns.{WaitColumns}
 use Rattle.uu_tables.specs.declared.rows.LinkColumns.{LinkColumns}
 use Rattle.uu_tables.specs.declared.rows.TakenColumns.{TakenColumns}
-use Rattle.uu_tables.specs.Tables.{Piece}
-use Rattle.uu_check.specs.Readable.{IsJobRow}
+use Rattle.uu_tables.specs.declared.rows.Body.{Body}
+use Rattle.uu_tables.specs.declared.earlier.BareSystem.{BareSystem}
+use Rattle.uu_tables.specs.declared.earlier.Piece.{Piece}
+use Rattle.uu_tables.specs.Tables.{definition_text}
+use Rattle.uu_check.specs.Readable.{IsJobRow, IsSystemRow}
 use Rattle.uu_check.specs.Tests.{is_kind, is_head}
-use Rattle.uu_schema.specs.Cells.{system_cells, line_cells, range_cells, job_cells, piece_cells, entry_cells, wait_cells, link_cells, taken_cells, kind_number, first_word, second_word}
+use Rattle.uu_schema.specs.Cells.{system_cells, body_cells, bare_cells, line_cells, range_cells, job_cells, piece_cells, entry_cells, wait_cells, link_cells, taken_cells, kind_number, first_word, second_word}
+use Rattle.uu_rows.proofs.Definitions.{same_definition}
 use Rattle.uu_store.proofs.Words.{same_words}
 
 same_text : (o p : Option (List ℕ)) → or_null Text o ≡ or_null Text p → o ≡ p
@@ -31,8 +35,26 @@ same_number None (Some n) h = absurd (cc)
 same_number (Some n) None h = absurd (cc)
 same_number (Some n) (Some m) h = let is : n ≡ m = cc in ap Some is
 
-pub same_system : (a b : SystemColumns) → system_cells a ≡ system_cells b → a ≡ b
-same_system a b h =
+pub same_system : (a b : SystemColumns) → IsSystemRow a → IsSystemRow b → system_cells a ≡ system_cells b → a ≡ b
+same_system a b good fine h =
+    let text : definition_text a.def ≡ definition_text b.def = cc in
+    let def = same_definition a.def b.def (good.def.name, good.def.limits, good.def.lines) (fine.def.name, fine.def.limits, fine.def.lines) text in
+    let last : a.call.last ≡ b.call.last = cc in
+    let failures : a.call.failures ≡ b.call.failures = cc in
+    let wait : a.call.wait ≡ b.call.wait = cc in
+    let outcome : a.call.outcome ≡ b.call.outcome = cc in
+    let cell : or_null Text a.call.why ≡ or_null Text b.call.why = cc in
+    let why = same_text a.call.why b.call.why cell in
+    λ i. record { def = def i; call = record { last = last i; failures = failures i; wait = wait i; outcome = outcome i; why = why i } }
+
+pub same_body : (a b : Body) → body_cells a ≡ body_cells b → a ≡ b
+same_body a b h =
+    let job : a.job ≡ b.job = cc in
+    let bytes : a.bytes ≡ b.bytes = cc in
+    λ i. record { job = job i; bytes = bytes i }
+
+pub same_bare : (a b : BareSystem) → bare_cells a ≡ bare_cells b → a ≡ b
+same_bare a b h =
     let name : a.name ≡ b.name = cc in
     let most : a.max_retries ≡ b.max_retries = cc in
     let last : a.call.last ≡ b.call.last = cc in

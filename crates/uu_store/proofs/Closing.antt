@@ -23,7 +23,7 @@ use Rattle.sqlite_trees.specs.declared.error.StoreError.TheVariants.{OutOfMemory
 use Rattle.uu_core.specs.State.{State}
 use Rattle.uu_schema.specs.Faults.{kind_of_error}
 use Rattle.uu_schema.specs.declared.fault.StoreKind.{StoreKind}
-use Rattle.uu_schema.specs.declared.version.Version.TheVariants.{Third}
+use Rattle.uu_schema.specs.declared.version.Version.TheVariants.{Fourth}
 use Rattle.uu_store.specs.Closing.{HasCause, IsClosed, KeepsAlone}
 use Rattle.uu_store.specs.Kept.{Keeps}
 use Rattle.uu_store.specs.Spool.{connection_of, disk, Shows}
@@ -31,7 +31,7 @@ use Rattle.uu_store.specs.Stretches.{IsLetGo}
 use Rattle.uu_store.specs.declared.spool.Spool.{Spool}
 
 committed_keeps : {S : Type 0} {g : Ghosts S} (spool : Spool S g) (s : State) → Shows spool s → Keeps (disk spool).committed.trees s
-committed_keeps spool s shows = subst (λ (d : Database). Keeps d.trees s) shows.rests.settled (inl (Third, shows.encodes.stands.sound, shows.encodes.holds))
+committed_keeps spool s shows = subst (λ (d : Database). Keeps d.trees s) shows.rests.settled (inl (Fourth, shows.encodes.stands.sound, shows.encodes.holds))
 
 keeps_alone : (image : Image) (trees : Trees) (s : State) → Keeps trees s → HoldsAlone image trees → KeepsAlone image s
 keeps_alone image trees s keeps alone = (∥∥₁_map alone.both (λ holds. inl (trees, holds, keeps)), ∥∥₁_map alone.alone (λ holds. inl (trees, holds, keeps)))

@@ -6,9 +6,9 @@ use Rattle.uu_core.specs.declared.custody.Taken.{Taken}
 use Rattle.uu_core.specs.State.{State, Link, IsLink, says_nothing}
 use Rattle.uu_tables.specs.Tables.{links_from, links_of, taken_columns, taken_rows}
 use Rattle.uu_schema.specs.declared.version.Version.{Version}
-use Rattle.uu_schema.specs.declared.version.Version.TheVariants.{First, Second, Third}
+use Rattle.uu_schema.specs.declared.version.Version.TheVariants.{First, Second, Third, Fourth}
 use Rattle.uu_schema.specs.Encoded.{EncodesAs}
-use Rattle.uu_adopt.specs.FoundTables.{IsEarlierVersion}
+use Rattle.uu_store.specs.Kept.{HasNoLinks}
 use Rattle.uu_store.proofs.NoWaits.{both_none}
 
 no_below : (name : List ℕ) (below : ℕ) → links_from name below ≡ [] → below ≡ 0
@@ -31,7 +31,8 @@ none_left (l ∷ ls) good h k =
     let nothing = sym (silent l first.0 second.0) ∙ (All-head IsLink l ls good).says in
     absurd (cc)
 
-pub no_links : (v : Version) (database : Database) (s : State) → IsEarlierVersion v → EncodesAs v database s → s.links ≡ []
+pub no_links : (v : Version) (database : Database) (s : State) → HasNoLinks v → EncodesAs v database s → s.links ≡ []
 no_links First database s early enc = none_left s.links enc.holds.good.links enc.holds.tables.links enc.holds.tables.taken
 no_links Second database s early enc = none_left s.links enc.holds.good.links enc.holds.tables.links enc.holds.tables.taken
 no_links Third database s early enc = absurd early
+no_links Fourth database s early enc = absurd early

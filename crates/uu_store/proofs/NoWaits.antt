@@ -2,7 +2,7 @@
 use Rattle.std.proofs.Common.{◌≡◌, ℕ, zero, suc, List, [], ◌∷◌, ◌++◌, flat_map, refl}
 use Rattle.std.specs.List.{AllByRecursion}
 use Rattle.uu_core.specs.declared.system.SystemRow.{SystemRow}
-use Rattle.uu_tables.specs.Tables.{waits_from, waits_of}
+use Rattle.uu_tables.specs.Earlier.{waits_from, waits_of}
 
 pub both_none : {X : Type 0} (xs ys : List X) → xs ++ ys ≡ [] → (xs ≡ []) × (ys ≡ [])
 both_none [] ys h = (refl, h)

@@ -28,7 +28,7 @@ use Rattle.sqlite_store.specs.FileStore as store
 use Rattle.uu_schema.specs.Steps.{Rests, Stands}
 use Rattle.uu_core.specs.State.{State, empty}
 use Rattle.uu_schema.specs.declared.version.Version.{Version}
-use Rattle.uu_schema.specs.Schema.{schema_of, no_schema}
+use Rattle.uu_schema.specs.Schema.{no_schema}
 use Rattle.uu_store.specs.declared.remains.OpenFault.{OpenFault}
 use Rattle.uu_store.specs.declared.remains.Remains.{Remains}
 use Rattle.uu_store.specs.declared.remains.Remains.TheVariants as remains
@@ -44,6 +44,7 @@ use Rattle.uu_schema.specs.declared.fault.StoreFault.TheVariants.{Memory, Store,
 use Rattle.uu_schema.specs.declared.fault.StoreKind.{StoreKind}
 use Rattle.uu_schema.specs.declared.fault.StoreKind.TheVariants as part
 use Rattle.uu_schema.specs.Faults.{kind_of_error}
+use Rattle.uu_schema.specs.Earlier.{schema_of}
 use Rattle.uu_adopt.specs.FoundTables.{HasNoneOrAll, HasUnversionedTables}
 use Rattle.uu_store.specs.Openings.{HasSome, ImageHasUnversionedTables, StaysAfter, ImageKeeps, IsFound, IsFoundIfClean, HasOpeningCause, IsRightFault, IsNotTaken, IsOfNoContents, IsToldRightly, LeavesAlone, LeavesAsKept, LeavesSame, remains_of, remains_of_opening}
 use Rattle.uu_adopt.proofs.Creating.{none_or_other, some_or_other}

@@ -14,10 +14,11 @@ use Rattle.uu_core.specs.declared.command.Command.{Command}
 use Rattle.uu_core.specs.State.{State}
 use Rattle.uu_core.specs.Run.{state_after, replies_to}
 use Rattle.uu_schema.specs.declared.version.Version.{Version}
-use Rattle.uu_schema.specs.declared.version.Version.TheVariants.{First, Second, Third}
-use Rattle.uu_schema.specs.Schema.{schema_of, no_schema}
+use Rattle.uu_schema.specs.declared.version.Version.TheVariants.{First, Second, Third, Fourth}
+use Rattle.uu_schema.specs.Schema.{no_schema}
 use Rattle.uu_schema.specs.declared.fault.StoreFault.{StoreFault}
 use Rattle.uu_schema.specs.declared.fault.StoreFault.TheVariants.{Memory, Store, Failed, Foreign, Newer}
+use Rattle.uu_schema.specs.Earlier.{schema_of}
 use Rattle.uu_store.specs.Kept.{Stores, Keeps, KeepsOnly, KeepsEither}
 use Rattle.uu_store.specs.Spool.{disk, Shows}
 use Rattle.uu_store.specs.Runs.{GoesOn}
@@ -29,6 +30,7 @@ pub simple_of : (v : Version) → IsSimple (schema_of v)
 simple_of First = record { views = refl; keys = (omega arith, (omega arith, (omega arith, (omega arith, (omega arith, (omega arith, (omega arith, tt))))))) }
 simple_of Second = record { views = refl; keys = (omega arith, (omega arith, (omega arith, (omega arith, (omega arith, (omega arith, (omega arith, (omega arith, tt)))))))) }
 simple_of Third = record { views = refl; keys = (omega arith, (omega arith, (omega arith, (omega arith, (omega arith, (omega arith, (omega arith, (omega arith, (omega arith, (omega arith, tt)))))))))) }
+simple_of Fourth = record { views = refl; keys = (omega arith, (omega arith, (omega arith, (omega arith, (omega arith, (omega arith, (omega arith, tt))))))) }
 
 pub simple_none : IsSimple no_schema
 simple_none = record { views = refl; keys = tt }
@@ -121,14 +123,14 @@ module _ (answers_follow : RepliesFollow) (it : Stretch) (s : State) (passed : P
         | inl on ↦ (record {
           one = take k it.exchange.commands;
           other = take k it.exchange.commands;
-          keeps = λ trees may. (let left = from.stop on trees (w.let_go.left trees may) in inl (inl (Third, left.0, left.1)));
+          keeps = λ trees may. (let left = from.stop on trees (w.let_go.left trees may) in inl (inl (Fourth, left.0, left.1)));
           counts_one = first;
           counts_other = first;
         })
         | inr loose ↦ (record {
           one = take k it.exchange.commands;
           other = take (k + it.exchange.in_hand) it.exchange.commands;
-          keeps = λ trees may. (let left = from.stop_store trees (w.let_go.left trees may) in elim left.1 [ inl h ↦ inl (inl (Third, left.0, h)) | inr h ↦ inr (inl (Third, left.0, h)) ]);
+          keeps = λ trees may. (let left = from.stop_store trees (w.let_go.left trees may) in elim left.1 [ inl h ↦ inl (inl (Fourth, left.0, h)) | inr h ↦ inr (inl (Fourth, left.0, h)) ]);
           counts_one = first;
           counts_other = counts_next answers_follow s it.exchange k refl w.ran.within from.answers (λ h. loose (subst HasNothingInHand w.ending h));
         })

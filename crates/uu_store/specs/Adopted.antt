@@ -9,10 +9,11 @@ use Rattle.uu_core.specs.State.{State, empty}
 use Rattle.uu_schema.specs.declared.fault.StoreFault.TheVariants.{Foreign, Newer}
 use Rattle.uu_schema.specs.declared.version.Version.{Version}
 use Rattle.uu_schema.specs.Encoded.{EncodesAs, Leaves}
-use Rattle.uu_schema.specs.Schema.{schema_of, no_schema}
+use Rattle.uu_schema.specs.Schema.{no_schema}
 use Rattle.uu_schema.specs.Steps.{Rests, Stands}
+use Rattle.uu_schema.specs.Earlier.{IsEarlierVersion, schema_of}
 use Rattle.uu_adopt.specs.Adoption.{IsAsBefore, StopsAs, UnlessFailed}
-use Rattle.uu_adopt.specs.FoundTables.{HasNone, HasNoneOrAll, IsEarlierVersion}
+use Rattle.uu_adopt.specs.FoundTables.{HasNone, HasNoneOrAll}
 use Rattle.uu_adopt.specs.Version.{IsLater}
 use Rattle.uu_store.specs.declared.adopt.AdoptFault.{AdoptFault}
 use Rattle.uu_store.specs.declared.spool.Spool.{Spool}
@@ -33,7 +34,7 @@ module _ {S : Type 0} {g : Ghosts S} (was : Held S) where
     pub encoded_before : (v : Version) → HasCleanDisk (disk spool) → Stands (schema_of v) (state g was).now → (s : State) × EncodesAs v (state g was).now s
     -- it had none of the spool's tables, or all of a version
     pub adopted_by_tables : HasNoneOrAll (state g was).now.schema
-    -- a stop at its end leaves only the state in version 3, or, if the database was empty, an empty
+    -- a stop at its end leaves only the state in version 4, or, if the database was empty, an empty
     -- spool
     pub stop_when_adopted : HasCleanDisk (disk spool) → Rests (state g was) → StopsAs (state g was) (disk spool)
     pub stop_when_created : HasCleanDisk (disk spool) → Rests (state g was) → Stands no_schema (state g was).now → Leaves (disk spool) empty
@@ -51,7 +52,7 @@ module _ {S : Type 0} {g : Ghosts S} (was : Held S) where
     -- them
     pub refusal_changes_nothing : HasCleanDisk (disk_back back) → Rests (state g was) → UnlessFailed back.fault (IsAsBefore (state g was) (disk_back back))
     -- A stop at its end leaves the state that was encoded, one of an earlier version in that
-    -- version or in version 3. An empty database is left empty or as an empty spool. After a
+    -- version or in version 4. An empty database is left empty or as an empty spool. After a
     -- refusal a stop leaves what was there, unless the store failed.
     pub stop_when_turned_away : HasCleanDisk (disk_back back) → Rests (state g was) → StopsAs (state g was) (disk_back back)
     pub stop_when_refused : HasCleanDisk (disk_back back) → Rests (state g was) → UnlessFailed back.fault ((trees : Trees) → (disk_back back).may_leave trees → trees ≡ (state g was).now.trees)

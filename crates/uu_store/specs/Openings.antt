@@ -33,7 +33,7 @@ use Rattle.uu_adopt.specs.Adoption.{IsOfNone}
 use Rattle.uu_schema.specs.Encoded.{EncodesAs}
 use Rattle.uu_schema.specs.Steps.{Stands, Rests}
 use Rattle.uu_schema.specs.declared.version.Version.{Version}
-use Rattle.uu_schema.specs.Schema.{schema_of}
+use Rattle.uu_schema.specs.Earlier.{schema_of}
 use Rattle.uu_adopt.specs.Version.{IsLater}
 use Rattle.uu_store.specs.Spool.{connection_of}
 use Rattle.uu_store.specs.Kept.{Keeps, Stores}
@@ -100,7 +100,7 @@ abbrev pub IsToldRightly : Version → Trees → StoreFault → Type 0
 IsToldRightly v trees fault = (fault ≡ Newer → IsLater trees) × (fault ≡ Foreign → (¬ IsLater trees) × IsOfNone v trees)
 
 -- It has some of the spool's tables, so an opening that ends with this fault leaves it as it was.
--- (If the store failed, those of an earlier version may have become those of version 3.)
+-- (If the store failed, those of an earlier version may have become those of version 4.)
 abbrev pub StaysAfter : StoreFault → Schema → Type 0
 StaysAfter (Store kind) schema = HasSome schema
 StaysAfter fault schema = ¬ HasNone schema
@@ -108,7 +108,7 @@ StaysAfter fault schema = ¬ HasNone schema
 -- A database was opened and not taken as a spool, and its store was let go. If it stores a state,
 -- it isn't called foreign or newer. If a name of the spool's tables is taken and no table says a
 -- version, it is called foreign. A stop leaves a database with any of the tables as it was, unless
--- the store failed while those of an earlier version were becoming those of version 3.
+-- the store failed while those of an earlier version were becoming those of version 4.
 pub record IsNotTaken {S : Type 0} (g : Ghosts S) (was : Held S) (stopped : S) (fault : StoreFault) : Type 0 where
   pub last : Held S
   pub turned_away : TurnedAway g was last

@@ -29,7 +29,7 @@ impl<S: Alter> Spool<S> {
 
     /// Takes the database as a spool. One with none of the spool's tables gets them, in one
     /// transaction. One with exactly these tables is taken exactly if its rows are those of a
-    /// spool's state. Tables of an earlier version then become those of version 3, in one
+    /// spool's state. Tables of an earlier version then become those of version 4, in one
     /// transaction. A database that has some of the tables, but not all of a version with their
     /// columns, is never taken.
     ///

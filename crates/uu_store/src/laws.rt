@@ -21,12 +21,12 @@ ghost use Rattle.uu_schema.specs.declared.fault.StoreFault.{StoreFault};
 ghost use Rattle.uu_store.specs.declared.spool.Spool.{Spool};
 ghost use Rattle.uu_schema.specs.declared.version.Version.{Version};
 ghost use Rattle.uu_schema.specs.declared.version.Version.TheVariants.{First};
-ghost use Rattle.uu_adopt.specs.FoundTables.{IsEarlierVersion};
 ghost use Rattle.sqlite.specs.Effect.{Database};
 ghost use Rattle.std.specs.List.{AllByRecursion};
 ghost use Rattle.uu_core.specs.declared.system.SystemRow.{SystemRow};
 ghost use Rattle.uu_schema.specs.Encoded.{EncodesAs, HoldsStateAs};
 ghost use Rattle.uu_store.specs.Closing.{IsClosed};
+ghost use Rattle.uu_store.specs.Kept.{HasNoLinks};
 ghost use Rattle.uu_store.specs.Spool.{connection_of};
 ghost use Rattle.uu_store.specs.Runs.{GoesOn, Ran};
 ghost use Rattle.uu_store.specs.Exchanges.{Exchange, exchange_of, not_given, Passes};
@@ -60,9 +60,9 @@ pub fn version_one_has_no_success_waits()
     ensures { (database : Database) (s : State) → EncodesAs First database s → AllByRecursion (λ (row : SystemRow). row.def.success_wait ≡ 0) s.systems }
 {}
 
-/// A database of an earlier version keeps no links, and neither does the state that it encodes.
-pub fn earlier_versions_have_no_links()
-    ensures { (v : Version) (database : Database) (s : State) → IsEarlierVersion v → EncodesAs v database s → s.links ≡ [] }
+/// A database of version 1 or 2 keeps no links, and neither does the state that it encodes.
+pub fn first_versions_have_no_links()
+    ensures { (v : Version) (database : Database) (s : State) → HasNoLinks v → EncodesAs v database s → s.links ≡ [] }
 {}
 
 /// If every command of a run was answered, it and the next run are one run of all the commands. (A

@@ -34,7 +34,7 @@ pub type FileSpool<T> = Spool<FileStore<SpoolFile<T>>>;
 /// With what is left of the two files. While the disk returned what was written, a stop then leaves
 /// files that keep what was kept (`left`). A database that was opened and has any of the spool's
 /// tables stays what it was (`left_alone`). The exception is a store that failed while tables of an
-/// earlier version were becoming those of version 3. Files that keep the state of a spool, or hold
+/// earlier version were becoming those of version 4. Files that keep the state of a spool, or hold
 /// nothing yet, are never `Foreign` or `Newer`.
 ///
 /// Suppose that a database was opened. If it has exactly the tables of a version, it is `Newer`
@@ -52,7 +52,7 @@ pub fn open_spool<T: Start>(
     // It shows the state that the files kept.
     ensures shows { IfOk result (λ spool. HasCleanDisk (disk spool) → (s : State) → ImageKeeps (image_at T.Start) s → Shows spool s) }
 
-    // A stop at its end leaves only this state, in the tables of version 3.
+    // A stop at its end leaves only this state, in the tables of version 4.
     ensures alone { IfOk result (λ spool. HasCleanDisk (disk spool) → (s : State) → ImageKeeps (image_at T.Start) s → Leaves (disk spool) s) }
 
     // A database in which one of the names is taken and no table says a version is never taken.

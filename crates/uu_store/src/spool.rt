@@ -44,7 +44,7 @@ impl<S: Alter> Spool<S> {
     ghost use Rattle.uu_core.specs.State.{head_of, job_at, entry_at, link_of};
     ghost use Rattle.uu_core.specs.Due.{AreDue};
     ghost use Rattle.uu_questions.specs.Listing.{listed_jobs};
-    ghost use Rattle.uu_questions.specs.Assembly.{holding};
+    ghost use Rattle.uu_questions.specs.Systems.{holding};
     ghost use Rattle.uu_store.specs.HandedOut.{IsBounded, IsTimed, job_shown};
     ghost use Rattle.sqlite.specs.State.{HasCleanDisk};
     ghost use Rattle.sqlite.specs.View.{IsClean};

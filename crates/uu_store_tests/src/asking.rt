@@ -218,15 +218,15 @@ fn expect_stops_after(rt: &impl Abort, alloc: Global, place: Place, answered: &[
     assert_eq!(rt; reached.as_slice(), answered);
 }
 
-// Why a system would not be removed is answered from pages that are still in memory, so no stop
-// comes there.
+// The systems are answered from pages that the question before kept in memory, so no stop comes
+// there.
 #[test]
 fn questions_and_stops_of_the_log(rt: HostRuntime) {
-    expect_stops_after(&rt, rt.alloc(), Place::Log, &[0, 1, 2, 3, 4, 5, 7, 8]);
+    expect_stops_after(&rt, rt.alloc(), Place::Log, &[0, 1, 2, 4, 5, 6, 7, 8]);
 }
 
 // The first question finds everything that it asks for in the log.
 #[test]
 fn questions_and_stops_of_the_database(rt: HostRuntime) {
-    expect_stops_after(&rt, rt.alloc(), Place::Database, &[1, 2, 3, 4, 5, 7, 8]);
+    expect_stops_after(&rt, rt.alloc(), Place::Database, &[1, 2, 4, 5, 6, 7, 8]);
 }

@@ -1,10 +1,10 @@
 // Which part of the store a fault is about. Other tests see the fault of a stopped disk at each of
-// its calls (`expect_stopped`). Here the database itself refuses a statement, whose answer has more
-// rows than a limit on its steps allows. A spool writes no row that is too big, so that kind is
+// its calls (`expect_stopped`). Here the database itself refuses a statement, which takes more steps
+// than a limit allows. A spool writes no row that is too big, so that kind is
 // only seen from the error.
 ghost use Rattle.std.specs.Prelude.{◌≡◌, false};
 
-use crate::order::{MONDAY, NIGHT, Order, Work, command};
+use crate::order::{ANY, Order, Work, command};
 use crate::questions::Step::Does;
 use crate::questions::{Step, play};
 use crate::worked::{DUKE, after, taken};
@@ -19,9 +19,6 @@ const REFUSED: Option<StoreFault> = Some(StoreFault::Store(StoreKind::Database))
 
 const FAILED: Option<StoreFault> = Some(StoreFault::Failed);
 
-/// A system with six ranges.
-const NIGHTLY: &[Step] = &[Does(Order::Define("duke", NIGHT, 26), Done)];
-
 const THREE_JOBS: &[Step] = &[
     DUKE,
     Does(Order::Queue("duke", b'N', Work::Send, 0), Number(1)),
@@ -29,7 +26,10 @@ const THREE_JOBS: &[Step] = &[
     Does(Order::Queue("duke", b'N', Work::Send, 0), Number(3)),
 ];
 
-/// The database of a spool after these steps, which refuses an answer of three rows.
+/// A system that no job waits for. Whether one does is asked of all three.
+const UNC: &[Step] = &[Does(Order::Define("unc", ANY, 26), Done)];
+
+/// The database of a spool after these steps, which refuses to look at three rows.
 fn hurried(rt: &impl Abort, alloc: Global, steps: &[Step]) -> Connection<MemStore>
     ensures { result.in_transaction ≡ false }
 {
@@ -48,9 +48,10 @@ fn a_command_tells_of_the_database(rt: HostRuntime) {
     let alloc = rt.alloc();
     let conn = hurried(&rt, alloc, &[]);
     let mut spool = taken(&rt, alloc, conn);
-    play(&rt, alloc, &mut spool, NIGHTLY);
-    let failed = command(&rt, alloc, Order::Failed("duke", MONDAY));
-    assert_eq!(rt; spool.command(alloc, failed).err(), REFUSED);
+    play(&rt, alloc, &mut spool, THREE_JOBS);
+    play(&rt, alloc, &mut spool, UNC);
+    let remove = command(&rt, alloc, Order::Remove("unc"));
+    assert_eq!(rt; spool.command(alloc, remove).err(), REFUSED);
     expect_failed_since(&rt, &mut spool);
 }
 
@@ -65,12 +66,12 @@ fn a_question_tells_of_the_database(rt: HostRuntime) {
 }
 
 /// The commands of a run. The database refuses the second.
-fn nightly_commands(rt: &impl Abort, alloc: Global) -> Vec<uu_store::Command> {
+fn some_commands(rt: &impl Abort, alloc: Global) -> Vec<uu_store::Command> {
     let mut commands = Vec::new(alloc);
     for order in [
-        Order::Define("duke", NIGHT, 26),
-        Order::Failed("duke", MONDAY),
-        Order::Remove("duke"),
+        Order::Define("unc", ANY, 26),
+        Order::Remove("unc"),
+        Order::Remove("unc"),
     ] {
         commands
             .push(command(rt, alloc, order))
@@ -84,7 +85,8 @@ fn a_run_tells_what_its_command_told(rt: HostRuntime) {
     let alloc = rt.alloc();
     let conn = hurried(&rt, alloc, &[]);
     let mut spool = taken(&rt, alloc, conn);
-    let end = spool.run(alloc, nightly_commands(&rt, alloc));
+    play(&rt, alloc, &mut spool, THREE_JOBS);
+    let end = spool.run(alloc, some_commands(&rt, alloc));
     assert_eq!(rt; end.stopped, REFUSED);
     assert_eq!(rt; end.replies.as_slice(), [Done].as_slice());
     expect_failed_since(&rt, &mut spool);

@@ -1,7 +1,7 @@
 //! Tests of the spool over disks and databases in memory:
 //!
 //! - stops at each call of a disk, and syncs that are left out
-//! - worked rows compared with the plain machine, the pieces of jobs, and the cost of a listing
+//! - worked rows compared with the plain machine, the bytes of jobs, and the cost of a listing
 //! - stretches of work over a file
 //! - jobs that are handed on under keys, and bundles that are taken whole
 //! - databases of an earlier version, and databases that are handed over
@@ -10,9 +10,13 @@
 #[cfg(test)]
 mod asking;
 #[cfg(test)]
+mod bodies;
+#[cfg(test)]
 mod bundles;
 #[cfg(test)]
 mod closing;
+#[cfg(test)]
+mod definitions;
 #[cfg(test)]
 mod disk;
 #[cfg(test)]
@@ -30,11 +34,7 @@ mod migrating;
 #[cfg(test)]
 mod order;
 #[cfg(test)]
-mod pieces;
-#[cfg(test)]
 mod questions;
-#[cfg(test)]
-mod ranges;
 #[cfg(test)]
 mod reopening;
 #[cfg(test)]

@@ -1,5 +1,5 @@
 // A stop at each call of a disk while files of an earlier version are taken as a spool, and their
-// tables become those of version 3. Any stop leaves one of the two versions, and the spool that is
+// tables become those of version 4. Any stop leaves one of the two versions, and the spool that is
 // opened afterwards shows what the plain machine holds.
 use crate::disk::{
     Contents, LONG_LOG, Place, SHORTEST_LOG, Stop, Use, Visit, Visitor, change_files, nothing,
@@ -30,7 +30,7 @@ impl Visitor for Fill {
     }
 }
 
-/// An earlier version, and how files get it.
+/// An earlier version, and how files of version 3 get it.
 #[derive(Clone, Copy)]
 struct Earlier {
     version: u32,
@@ -57,13 +57,38 @@ const SECOND: Earlier = Earlier {
     ],
 };
 
+const THIRD: Earlier = Earlier {
+    version: 3,
+    into: &[],
+};
+
+/// The statements that give the spool after the commands the tables of version 3: the definitions and
+/// calls of its systems, and the bytes of its one job that has some, in pieces.
+const INTO_THIRD: &[&str] = &[
+    "DROP TABLE systems",
+    "CREATE TABLE systems (name TEXT NOT NULL PRIMARY KEY, max_retries INTEGER NOT NULL, last INTEGER NOT NULL, failures INTEGER NOT NULL, wait INTEGER NOT NULL, outcome INTEGER NOT NULL, why TEXT) STRICT",
+    "INSERT INTO systems VALUES ('duke', 2, 0, 0, 0, 0, NULL), ('unc', 26, 1000116000, 1, 600, 1, 'busy')",
+    "CREATE TABLE lines (system TEXT NOT NULL REFERENCES systems (name) ON DELETE CASCADE, place INTEGER NOT NULL, rank INTEGER NOT NULL, retry INTEGER, PRIMARY KEY (system, place)) STRICT",
+    "INSERT INTO lines VALUES ('duke', 0, 61, 30), ('unc', 0, 61, NULL)",
+    "CREATE TABLE ranges (system TEXT NOT NULL, place INTEGER NOT NULL, low INTEGER NOT NULL, high INTEGER NOT NULL, PRIMARY KEY (system, place, low), FOREIGN KEY (system, place) REFERENCES lines (system, place) ON DELETE CASCADE) STRICT",
+    "INSERT INTO ranges VALUES ('duke', 0, 0, 10079), ('unc', 0, 0, 10079)",
+    "CREATE TABLE pieces (job INTEGER NOT NULL REFERENCES jobs (number) ON DELETE CASCADE, place INTEGER NOT NULL, bytes BLOB NOT NULL, PRIMARY KEY (job, place)) STRICT",
+    "INSERT INTO pieces SELECT job, 0, substr(bytes, 1, 16384) FROM bodies WHERE job = 1",
+    "INSERT INTO pieces SELECT job, 1, substr(bytes, 16385, 16384) FROM bodies WHERE job = 1",
+    "INSERT INTO pieces SELECT job, 2, substr(bytes, 32769) FROM bodies WHERE job = 1",
+    "DROP TABLE bodies",
+    "CREATE TABLE success_waits (system TEXT NOT NULL PRIMARY KEY REFERENCES systems (name) ON DELETE CASCADE, wait INTEGER NOT NULL) STRICT",
+    "UPDATE spool SET version = 3",
+];
+
 const VERSION: &str = "SELECT version FROM spool";
 
 /// Files of the version after the commands. The log has never been copied into the database file.
 fn files_of(rt: &impl Abort, alloc: Global, earlier: Earlier) -> Contents {
     let used = Use::unstopped(LONG_LOG);
     let visit = visit_files(rt, alloc, &nothing(alloc), used, &mut Fill);
-    let (contents, _rows) = change_files(rt, alloc, &visit.written, earlier.into, VERSION);
+    let (third, _rows) = change_files(rt, alloc, &visit.written, INTO_THIRD, VERSION);
+    let (contents, _rows) = change_files(rt, alloc, &third, earlier.into, VERSION);
     contents
 }
 
@@ -81,9 +106,9 @@ enum Left {
     Same,
     /// Other files of the earlier version.
     Earlier,
-    /// The earlier version in what was synced, and version 3 in all that was written.
+    /// The earlier version in what was synced, and version 4 in all that was written.
     Written,
-    /// Version 3: the files were taken.
+    /// Version 4: the files were taken.
     Taken,
 }
 
@@ -94,8 +119,8 @@ fn left_by(rt: &impl Abort, alloc: Global, visit: &Visit, was: u32, picture: &st
     let synced = version_in(rt, alloc, &visit.synced);
     let written = version_in(rt, alloc, &visit.written);
     match (visit.is_taken(), synced == was, written) {
-        (false, true, 3) => Left::Written,
-        (true, false, 3) if synced == 3 => Left::Taken,
+        (false, true, 4) => Left::Written,
+        (true, false, 4) if synced == 4 => Left::Taken,
         (false, true, _) if written == was => Left::Earlier,
         _ => panic!(rt; "another version"),
     }
@@ -118,7 +143,7 @@ fn stop_at(
 }
 
 /// Stops at each call of one file, counting up until the files are taken. Returns how many left
-/// other files of the earlier version, and how many left version 3 if all that was written was
+/// other files of the earlier version, and how many left version 4 if all that was written was
 /// kept.
 fn stop_at_each_call(
     rt: &impl Abort,
@@ -157,7 +182,7 @@ fn stops_of_the_log(rt: &impl Abort, alloc: Global, was: Earlier) {
 fn stops_of_the_database(rt: &impl Abort, alloc: Global, was: Earlier) {
     let (earlier, written) = stop_at_each_call(rt, alloc, was, Place::Database, SHORTEST_LOG);
     assert!(rt; earlier > 0, "no stop within the copy of the log");
-    assert_eq!(rt; written, 0, "version 3 in the database file");
+    assert_eq!(rt; written, 0, "version 4 in the database file");
 }
 
 #[test]
@@ -178,4 +203,14 @@ fn version_2_is_taken_with_stops_of_the_log(rt: HostRuntime) {
 #[test]
 fn version_2_is_taken_with_stops_of_the_database(rt: HostRuntime) {
     stops_of_the_database(&rt, rt.alloc(), SECOND);
+}
+
+#[test]
+fn version_3_is_taken_with_stops_of_the_log(rt: HostRuntime) {
+    stops_of_the_log(&rt, rt.alloc(), THIRD);
+}
+
+#[test]
+fn version_3_is_taken_with_stops_of_the_database(rt: HostRuntime) {
+    stops_of_the_database(&rt, rt.alloc(), THIRD);
 }

@@ -13,7 +13,6 @@ use Rattle.uu_names.proofs.Basics.{AllPairsByRecursion, all_weaker, later_other,
 use Rattle.uu_core.specs.State.{same_text}
 use Rattle.uu_core.specs.After.{is_before, put_by}
 use Rattle.uu_tables.specs.Changes.{alter, without, insert_by}
-use Rattle.uu_tables.specs.Parts.{insert_each}
 use Rattle.uu_tables.proofs.OrderLemmas.{before}
 
 -- ---- filters
@@ -191,6 +190,11 @@ not_behind_itself key = by_test (slice_cmp nat_cmp key key) refl
     by_test Less e = absurd (not_before_itself key e)
     by_test Equal e = refl
     by_test Greater e = refl
+
+-- rows that are added one after the other
+abbrev pub insert_each : {V : Type 0} → (V → List ℕ) → List V → List V → List V
+insert_each name [] rows = rows
+insert_each name (row ∷ more) rows = insert_each name more (insert_by name row rows)
 
 module _ {V : Type 0} (name : V → List ℕ) (key : List ℕ) where
   one_between : (row : V) (front back : List V) → name row ≡ key → AllByRecursion (λ x. is_behind_key key (name x) ≡ false) front → AllByRecursion (λ x. is_behind_key key (name x) ≡ true) back → insert_by name row (front ++ back) ≡ front ++ row ∷ back

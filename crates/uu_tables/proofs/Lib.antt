@@ -1,11 +1,10 @@
 pub mod DefineLemmas
+pub mod DefinitionLemmas
 pub mod EntryLemmas
 pub mod InsertLemmas
 pub mod JobLemmas
-pub mod LineLemmas
 pub mod LinkLemmas
 pub mod OrderLemmas
-pub mod PieceLemmas
 pub mod PlanLemmas
 pub mod ReleaseLemmas
 pub mod ReportLemmas

@@ -31,7 +31,7 @@ use Rattle.uu_tables.proofs.RowLemmas.{none_go, each_made}
 use Rattle.uu_tables.proofs.OrderLemmas.{before, found, none_passes}
 use Rattle.uu_tables.proofs.InsertLemmas.{ahead, behind, is_behind_key, kept_none, kept_all, kept_mapped, kept_ahead, kept_behind, found_none, others_are, changed_is, each_between}
 use Rattle.uu_tables.proofs.SystemLemmas.{each_link, links_without}
-use Rattle.uu_tables.proofs.PieceLemmas.{queued}
+use Rattle.uu_tables.proofs.JobLemmas.{queued}
 
 -- ---- lists
 

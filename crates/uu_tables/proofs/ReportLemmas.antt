@@ -19,10 +19,10 @@ use Rattle.uu_core.specs.Waiting.{one_more}
 use Rattle.uu_core.specs.After.{accept, failed_call, failed_decision, done_call, done_call_of, is_among}
 use Rattle.uu_tables.specs.declared.change.Change.TheVariants.{RemoveJob}
 use Rattle.uu_tables.specs.declared.rows.CallColumns.{CallColumns}
-use Rattle.uu_tables.specs.Tables.{Tables, tables_of, call_columns, system_columns, line_columns, placed, ranges_of, waits_of, piece, pieces_of}
+use Rattle.uu_tables.specs.Tables.{Tables, tables_of, call_columns, system_columns, body_of}
 use Rattle.uu_tables.specs.Changes.{alter, apply, without, has_name}
 use Rattle.uu_tables.specs.Parts.{without_jobs, is_one_of}
-use Rattle.uu_tables.proofs.RowLemmas.{altered, dropped, dropped_with, same_rows, each_made, gone_twice, none_gone}
+use Rattle.uu_tables.proofs.RowLemmas.{altered, dropped, gone_twice, none_gone}
 use Rattle.uu_tables.proofs.OrderLemmas.{before, only_one, agree}
 use Rattle.uu_tables.proofs.WaitLemmas.{wait_within}
 
@@ -37,11 +37,11 @@ one_more_number numbers number job = list_any-append (λ n. n == job) numbers (n
 pub one_job_more : (numbers : List ℕ) (number : ℕ) (t : Tables) → apply (RemoveJob number) (without_jobs numbers t) ≡ without_jobs (numbers ++ number ∷ []) t
 one_job_more numbers number t = λ i. record t {
   jobs = gone_twice (λ row. is_one_of numbers row.number) (λ row. row.number == number) (λ row. is_one_of (numbers ++ number ∷ []) row.number) (λ row. one_more_number numbers number row.number) t.jobs i;
-  pieces = gone_twice (λ row. is_one_of numbers row.job) (λ row. row.job == number) (λ row. is_one_of (numbers ++ number ∷ []) row.job) (λ row. one_more_number numbers number row.job) t.pieces i;
+  bodies = gone_twice (λ row. is_one_of numbers row.job) (λ row. row.job == number) (λ row. is_one_of (numbers ++ number ∷ []) row.job) (λ row. one_more_number numbers number row.job) t.bodies i;
 }
 
 pub no_job_less : (t : Tables) → t ≡ without_jobs [] t
-no_job_less t = λ i. record t { jobs = sym (none_gone t.jobs) i; pieces = sym (none_gone t.pieces) i }
+no_job_less t = λ i. record t { jobs = sym (none_gone t.jobs) i; bodies = sym (none_gone t.bodies) i }
 
 -- ---- calls
 
@@ -60,18 +60,12 @@ called name call rows = alter (is_system name) (λ row. record row { call = call
 pub call_is_set : (s : State) (name : List ℕ) (call : CallState) → with_call name call (tables_of s) ≡ tables_of (record s { systems = called name call s.systems })
 call_is_set s name call = λ i. record (tables_of s) {
   systems = altered system_columns (is_system name) (has_name name) (λ row. record row { call = call }) (λ row. record row { call = call_columns call }) (λ row. refl) (λ row. refl) s.systems i;
-  lines = map line_columns (same_rows placed (is_system name) (λ row. record row { call = call }) (λ row. refl) s.systems i);
-  ranges = flat_map ranges_of (same_rows placed (is_system name) (λ row. record row { call = call }) (λ row. refl) s.systems i);
-  success_waits = same_rows waits_of (is_system name) (λ row. record row { call = call }) (λ row. refl) s.systems i;
 }
-
-pieces_go : (numbers : List ℕ) (job : Job) → AllByRecursion (λ p. is_one_of numbers p.job ≡ is_among numbers job) (pieces_of job)
-pieces_go numbers job = each_made (λ p. is_one_of numbers p.job ≡ is_among numbers job) (piece job.number job.bytes) (λ place. refl) _
 
 pub jobs_are_gone : (s : State) (numbers : List ℕ) → without_jobs numbers (tables_of s) ≡ tables_of (record s { jobs = without (is_among numbers) s.jobs })
 jobs_are_gone s numbers = λ i. record (tables_of s) {
   jobs = dropped head_of (is_among numbers) (λ row. is_one_of numbers row.number) (λ job. refl) s.jobs i;
-  pieces = dropped_with pieces_of (is_among numbers) (λ p. is_one_of numbers p.job) (pieces_go numbers) s.jobs i;
+  bodies = dropped body_of (is_among numbers) (λ row. is_one_of numbers row.job) (λ job. refl) s.jobs i;
 }
 
 -- the calls of one system, which is found, change as those of each of its name would

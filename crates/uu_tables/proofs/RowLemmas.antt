@@ -43,10 +43,10 @@ dropped_with f p q test (x ∷ xs) = filter-append (λ y. not (q y)) (f x) (flat
     by_test true h rest = rw (all_go q (f x) h) rest
     by_test false h rest = rw (none_go q (f x) h) (ap (λ l. f x ++ l) rest)
 
--- if a change of an item leaves its rows
-pub same_rows : {X Y : Type 0} (f : X → List Y) (p : X → Bool) (c : X → X) → ((x : X) → f (c x) ≡ f x) → (xs : List X) → flat_map f xs ≡ flat_map f (alter p c xs)
+-- if a change of an item leaves its row
+pub same_rows : {X Y : Type 0} (f : X → Y) (p : X → Bool) (c : X → X) → ((x : X) → f (c x) ≡ f x) → (xs : List X) → map f xs ≡ map f (alter p c xs)
 same_rows f p c same [] = refl
-same_rows f p c same (x ∷ xs) = λ i. one (p x) i ++ same_rows f p c same xs i
+same_rows f p c same (x ∷ xs) = λ i. one (p x) i ∷ same_rows f p c same xs i
   where
     one : (b : Bool) → f x ≡ f (cond b (c x) x)
     one true = sym (same x)

@@ -3,21 +3,18 @@ use Rattle.std.specs.declared.cmp.Ordering.{Ordering}
 use Rattle.std.specs.Ordering.{is_lt}
 use Rattle.std.specs.Prelude.{ℕ, Bool, not, ◌==◌, ◌&&◌, nat_lt, List, [], ◌∷◌, ◌++◌, map, filter, if◌then◌else◌}
 use Rattle.uu_times.specs.System.{System}
-use Rattle.uu_times.specs.declared.system.Line.{Line}
 use Rattle.uu_core.specs.declared.job.JobHead.{JobHead}
 use Rattle.uu_core.specs.State.{same_text}
 use Rattle.uu_core.specs.After.{is_before, never_called}
 use Rattle.uu_tables.specs.declared.rows.SystemColumns.{SystemColumns}
-use Rattle.uu_tables.specs.declared.rows.LineColumns.{LineColumns}
-use Rattle.uu_tables.specs.declared.rows.RangeColumns.{RangeColumns}
+use Rattle.uu_tables.specs.declared.rows.Body.{Body}
 use Rattle.uu_tables.specs.declared.rows.EntryColumns.{EntryColumns}
-use Rattle.uu_tables.specs.declared.rows.WaitColumns.{WaitColumns}
 use Rattle.uu_tables.specs.declared.rows.LinkColumns.{LinkColumns}
 use Rattle.uu_tables.specs.declared.rows.TakenColumns.{TakenColumns}
 use Rattle.uu_tables.specs.declared.change.JobColumns.{JobColumns}
 use Rattle.uu_tables.specs.declared.change.Change.{Change}
-use Rattle.uu_tables.specs.declared.change.Change.TheVariants.{AddSystem, SetMaxRetries, SetCall, RemoveSystem, RemoveLines, AddSuccessWait, RemoveSuccessWait, AddLink, RemoveLink, AddTaken, ForgetTaken, AddLine, AddRange, AddJob, SetGrade, SetQueued, RemoveJob, AddPiece, RemoveEntry, AddEntry, SetNext}
-use Rattle.uu_tables.specs.Tables.{Tables, Piece, system_columns, line_columns, range_columns, taken_columns}
+use Rattle.uu_tables.specs.declared.change.Change.TheVariants.{AddSystem, SetDefinition, SetCall, RemoveSystem, AddLink, RemoveLink, AddTaken, ForgetTaken, AddJob, SetGrade, SetQueued, RemoveJob, AddBody, RemoveEntry, AddEntry, SetNext}
+use Rattle.uu_tables.specs.Tables.{Tables, system_columns, taken_columns}
 use Rattle.uu_tables.specs.Order.{taken_cmp}
 
 -- ---- changes of a list of rows
@@ -45,16 +42,7 @@ without test rows = filter (λ row. not (test row)) rows
 -- ---- whose row it is
 
 abbrev pub has_name : List ℕ → SystemColumns → Bool
-has_name name row = same_text row.name name
-
-abbrev pub is_line_of : List ℕ → LineColumns → Bool
-is_line_of name row = same_text row.system name
-
-abbrev pub is_range_of : List ℕ → RangeColumns → Bool
-is_range_of name row = same_text row.system name
-
-abbrev pub is_wait_of : List ℕ → WaitColumns → Bool
-is_wait_of name row = same_text row.system name
+has_name name row = same_text row.def.name name
 
 abbrev pub is_link_of : List ℕ → LinkColumns → Bool
 is_link_of name row = same_text row.system name
@@ -69,8 +57,8 @@ is_forgotten name below row = is_taken_of name row && nat_lt row.taken.number be
 abbrev pub has_number : ℕ → JobHead → Bool
 has_number number row = row.number == number
 
-abbrev pub is_piece_of : ℕ → Piece → Bool
-is_piece_of number row = row.job == number
+abbrev pub is_body_of : ℕ → Body → Bool
+is_body_of number row = row.job == number
 
 abbrev pub is_about : List ℕ → EntryColumns → Bool
 is_about host row = same_text row.host host
@@ -80,12 +68,6 @@ is_about host row = same_text row.host host
 -- a system that was never called
 abbrev pub new_system : System → SystemColumns
 new_system def = system_columns (record { def = def; call = never_called })
-
-abbrev pub new_line : List ℕ → ℕ → Line → LineColumns
-new_line name place line = line_columns (record { system = name; place = place; line = line })
-
-abbrev pub new_wait : List ℕ → ℕ → WaitColumns
-new_wait name wait = record { system = name; wait = wait }
 
 abbrev pub new_below : List ℕ → ℕ → LinkColumns
 new_below name below = record { system = name; below = below }
@@ -101,8 +83,8 @@ new_job number columns = record {
   size = columns.size;
 }
 
-abbrev pub new_piece : ℕ → ℕ → List ℕ → Piece
-new_piece number place part = record { job = number; place = place; bytes = part }
+abbrev pub new_body : ℕ → List ℕ → Body
+new_body number all = record { job = number; bytes = all }
 
 abbrev pub new_entry : List ℕ → List ℕ → EntryColumns
 new_entry host text = record { host = host; bytes = text }
@@ -110,32 +92,20 @@ new_entry host text = record { host = host; bytes = text }
 -- ---- the tables after one change
 
 abbrev pub apply : Change → Tables → Tables
-apply (AddSystem def) t = record t { systems = insert_by (λ row. row.name) (new_system def.now) t.systems }
-apply (SetMaxRetries system max_retries) t = record t { systems = alter (has_name system.now) (λ row. record row { max_retries = max_retries }) t.systems }
+apply (AddSystem def) t = record t { systems = insert_by (λ row. row.def.name) (new_system def.now) t.systems }
+apply (SetDefinition def) t = record t { systems = alter (has_name def.now.name) (λ row. record row { def = def.now }) t.systems }
 apply (SetCall system call) t = record t { systems = alter (has_name system.now) (λ row. record row { call = call }) t.systems }
 apply (RemoveSystem system) t =
-    record t {
-      systems = without (has_name system.now) t.systems;
-      lines = without (is_line_of system.now) t.lines;
-      ranges = without (is_range_of system.now) t.ranges;
-      success_waits = without (is_wait_of system.now) t.success_waits;
-      links = without (is_link_of system.now) t.links;
-      taken = without (is_taken_of system.now) t.taken;
-    }
-apply (RemoveLines system) t = record t { lines = without (is_line_of system.now) t.lines; ranges = without (is_range_of system.now) t.ranges }
-apply (AddSuccessWait system wait) t = record t { success_waits = insert_by (λ row. row.system) (new_wait system.now wait) t.success_waits }
-apply (RemoveSuccessWait system) t = record t { success_waits = without (is_wait_of system.now) t.success_waits }
+    record t { systems = without (has_name system.now) t.systems; links = without (is_link_of system.now) t.links; taken = without (is_taken_of system.now) t.taken }
 apply (AddLink system below) t = record t { links = insert_by (λ row. row.system) (new_below system.now below) t.links }
 apply (RemoveLink system) t = record t { links = without (is_link_of system.now) t.links }
 apply (AddTaken system taken) t = record t { taken = insert_at taken_cmp (taken_columns system.now taken) t.taken }
 apply (ForgetTaken system below) t = record t { taken = without (is_forgotten system.now below) t.taken }
-apply (AddLine system place line) t = record t { lines = insert_by (λ row. row.system) (new_line system.now place line.now) t.lines }
-apply (AddRange system place low high) t = record t { ranges = insert_by (λ row. row.system) (range_columns system.now place (low, high)) t.ranges }
 apply (AddJob number columns) t = record t { jobs = append (new_job number columns) t.jobs }
 apply (SetGrade number grade) t = record t { jobs = alter (has_number number) (λ row. record row { grade = grade }) t.jobs }
 apply (SetQueued number queued) t = record t { jobs = alter (has_number number) (λ row. record row { queued = queued }) t.jobs }
-apply (RemoveJob number) t = record t { jobs = without (has_number number) t.jobs; pieces = without (is_piece_of number) t.pieces }
-apply (AddPiece job place bytes) t = record t { pieces = append (new_piece job place bytes.now) t.pieces }
+apply (RemoveJob number) t = record t { jobs = without (has_number number) t.jobs; bodies = without (is_body_of number) t.bodies }
+apply (AddBody job bytes) t = record t { bodies = append (new_body job bytes.now) t.bodies }
 apply (RemoveEntry host) t = record t { entries = without (is_about host) t.entries }
 apply (AddEntry host bytes) t = record t { entries = insert_by (λ row. row.host) (new_entry host bytes.now) t.entries }
 apply (SetNext next) t = record t { next = next }

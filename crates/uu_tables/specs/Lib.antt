@@ -1,4 +1,5 @@
 pub mod Changes
+pub mod Earlier
 pub mod Order
 pub mod Parts
 pub mod Plans

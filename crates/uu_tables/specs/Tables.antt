@@ -1,8 +1,9 @@
--- The tables of a state as plain lists of rows, in the machine's own order. (The tables, their keys
--- and the size of a piece are this project's choice.)
-use Rattle.std.specs.Prelude.{ℕ, zero, suc, ◌+◌, ◌*◌, ◌/◌, List, [], ◌∷◌, length, map, take, drop, Option, None, Some}
-use Rattle.std.specs.List.{flat_map, range_with_len}
-use Rattle.uu_times.specs.declared.system.Line.{Line}
+-- The tables of a state as plain lists of rows, in the machine's own order. (The tables and their
+-- keys are this project's choice.)
+use Rattle.std.specs.Prelude.{ℕ, zero, suc, List, [], ◌∷◌, length, map, Option, None, Some}
+use Rattle.std.specs.List.{flat_map}
+use Rattle.uu_times.specs.System.{System}
+use Rattle.uu_times.specs.Printed.{sys_text}
 use Rattle.uu_core.specs.declared.job.JobHead.{JobHead}
 use Rattle.uu_core.specs.declared.system.CallState.{CallState}
 use Rattle.uu_core.specs.declared.system.SystemRow.{SystemRow}
@@ -12,40 +13,23 @@ use Rattle.uu_core.specs.declared.custody.Taken.{Taken}
 use Rattle.uu_core.specs.State.{State, Job, MapEntry, Link, head_of}
 use Rattle.uu_tables.specs.declared.rows.CallColumns.{CallColumns}
 use Rattle.uu_tables.specs.declared.rows.SystemColumns.{SystemColumns}
-use Rattle.uu_tables.specs.declared.rows.LineColumns.{LineColumns}
-use Rattle.uu_tables.specs.declared.rows.RangeColumns.{RangeColumns}
-use Rattle.uu_tables.specs.declared.rows.WaitColumns.{WaitColumns}
+use Rattle.uu_tables.specs.declared.rows.Body.{Body}
+use Rattle.uu_tables.specs.declared.rows.BodySize.{BodySize}
 use Rattle.uu_tables.specs.declared.rows.LinkColumns.{LinkColumns}
 use Rattle.uu_tables.specs.declared.rows.TakenColumns.{TakenColumns}
-use Rattle.uu_tables.specs.declared.rows.PieceSize.{PieceSize}
 use Rattle.uu_tables.specs.declared.rows.EntryColumns.{EntryColumns}
 
--- a piece of a job's bytes
-pub record Piece : Type 0 where
-  pub job : ℕ
-  pub place : ℕ
-  pub bytes : List ℕ
-
--- a time line with its system and its place there
-pub record PlacedLine : Type 0 where
-  pub system : List ℕ
-  pub place : ℕ
-  pub line : Line
-
--- The number of the next job, and the rows of the other nine tables.
+-- The number of the next job, and the rows of the other six tables.
 pub record Tables : Type 0 where
   pub next : ℕ
   pub systems : List SystemColumns
-  pub lines : List LineColumns
-  pub ranges : List RangeColumns
   pub jobs : List JobHead
-  pub pieces : List Piece
+  pub bodies : List Body
   pub entries : List EntryColumns
-  pub success_waits : List WaitColumns
   pub links : List LinkColumns
   pub taken : List TakenColumns
 
--- ---- systems, lines, ranges
+-- ---- systems
 
 abbrev pub outcome_number : Outcome → ℕ
 outcome_number Never = 0
@@ -67,34 +51,11 @@ call_columns call = record {
 }
 
 abbrev pub system_columns : SystemRow → SystemColumns
-system_columns row = record { name = row.def.name; max_retries = row.def.max_retries; call = call_columns row.call }
+system_columns row = record { def = row.def; call = call_columns row.call }
 
--- the lines of a system, numbered from a place on
-abbrev pub placed_from : List ℕ → ℕ → List Line → List PlacedLine
-placed_from name place [] = []
-placed_from name place (line ∷ lines) = record { system = name; place = place; line = line } ∷ placed_from name (place + 1) lines
-
--- the lines of a system, numbered
-abbrev pub placed : SystemRow → List PlacedLine
-placed row = placed_from row.def.name 0 row.def.lines
-
-abbrev pub line_columns : PlacedLine → LineColumns
-line_columns p = record { system = p.system; place = p.place; grade = p.line.grade; retry = p.line.retry }
-
-abbrev pub range_columns : List ℕ → ℕ → ℕ × ℕ → RangeColumns
-range_columns name place range = record { system = name; place = place; low = range.0; high = range.1 }
-
--- the ranges of a line
-abbrev pub ranges_of : PlacedLine → List RangeColumns
-ranges_of p = map (range_columns p.system p.place) p.line.windows
-
--- the success wait of a system, unless it is 0
-abbrev pub waits_from : List ℕ → ℕ → List WaitColumns
-waits_from name zero = []
-waits_from name (suc n) = record { system = name; wait = suc n } ∷ []
-
-abbrev pub waits_of : SystemRow → List WaitColumns
-waits_of row = waits_from row.def.name row.def.success_wait
+-- a definition as it is kept: the sys file of the system alone
+unfoldable pub definition_text : System → List ℕ
+definition_text def = sys_text (def ∷ [])
 
 -- ---- links
 
@@ -113,34 +74,15 @@ taken_columns name taken = record { system = name; taken = taken }
 abbrev pub taken_rows : Link → List TakenColumns
 taken_rows link = map (taken_columns link.name) link.taken
 
--- ---- jobs, pieces
+-- ---- jobs
 
--- the bytes of a full piece
-abbrev pub piece_bytes : ℕ
-piece_bytes = 16384
+-- the bytes of a job, also if it has none
+abbrev pub body_of : Job → Body
+body_of job = record { job = job.number; bytes = job.bytes }
 
--- the piece of a job at a place
-abbrev pub piece : ℕ → List ℕ → ℕ → Piece
-piece number all place = record { job = number; place = place; bytes = take piece_bytes (drop (place * piece_bytes) all) }
-
--- the most pieces of a job: those of as many bytes as it may have
-abbrev pub most_pieces : ℕ
-most_pieces = 64
-
--- how many pieces so many bytes make
-abbrev pub piece_count : ℕ → ℕ
-piece_count size = (size + 16383) / piece_bytes
-
--- the pieces of a job's bytes
-abbrev pub cut : ℕ → List ℕ → List Piece
-cut number all = map (piece number all) (range_with_len 0 (piece_count (length all)))
-
-abbrev pub pieces_of : Job → List Piece
-pieces_of job = cut job.number job.bytes
-
--- a piece without its bytes
-abbrev pub size_of : Piece → PieceSize
-size_of p = record { job = p.job; place = p.place; length = length p.bytes }
+-- a body without its bytes
+abbrev pub size_of : Body → BodySize
+size_of body = record { job = body.job; length = length body.bytes }
 
 -- ---- entries
 
@@ -153,12 +95,9 @@ abbrev pub tables_of : State → Tables
 tables_of s = record {
   next = s.next;
   systems = map system_columns s.systems;
-  lines = map line_columns (flat_map placed s.systems);
-  ranges = flat_map ranges_of (flat_map placed s.systems);
   jobs = map head_of s.jobs;
-  pieces = flat_map pieces_of s.jobs;
+  bodies = map body_of s.jobs;
   entries = map entry_columns s.entries;
-  success_waits = flat_map waits_of s.systems;
   links = flat_map links_of s.links;
   taken = flat_map taken_rows s.links;
 }

@@ -2,7 +2,7 @@
 use crate::rows::CallColumns;
 use uu_core::{Kind, Taken};
 use uu_names::{Grade, SiteName, Word};
-use uu_times::{Line, SystemDef};
+use uu_times::SystemDef;
 
 /// What the row of a new job has besides its number.
 #[derive(Drop)]
@@ -21,19 +21,14 @@ pub struct JobColumns<'a> {
     pub size: u32,
 }
 
-/// A change of the tables that one statement makes. If no row has the name or number, it changes
-/// nothing.
+/// A change of the tables, made by a statement for each table that it is about. If no row has the
+/// name or number, it changes nothing.
 #[derive(Drop)]
 pub enum Change<'a> {
-    /// One more system, which was never called, without its lines.
+    /// One more system, which was never called.
     AddSystem(&'a SystemDef),
-    /// Another number of failures after which calls of a system become rare.
-    SetMaxRetries {
-        /// The system.
-        system: &'a SiteName,
-        /// The number.
-        max_retries: u32,
-    },
+    /// Another definition of a system.
+    SetDefinition(&'a SystemDef),
     /// Other calls of a system.
     SetCall {
         /// The system.
@@ -41,26 +36,9 @@ pub enum Change<'a> {
         /// How they went.
         call: CallColumns,
     },
-    /// The system is removed, with its lines, their ranges, its success wait, and its link: the
-    /// number below which it won't ask again, and what was taken from it.
+    /// The system is removed, with its link: the number below which it won't ask again, and what
+    /// was taken from it.
     RemoveSystem {
-        /// The system.
-        system: &'a SiteName,
-    },
-    /// The lines of a system are removed, with their ranges.
-    RemoveLines {
-        /// The system.
-        system: &'a SiteName,
-    },
-    /// The success wait of a system that has none.
-    AddSuccessWait {
-        /// The system.
-        system: &'a SiteName,
-        /// The seconds.
-        wait: u32,
-    },
-    /// The success wait of a system is removed.
-    RemoveSuccessWait {
         /// The system.
         system: &'a SiteName,
     },
@@ -90,26 +68,6 @@ pub enum Change<'a> {
         /// The number.
         below: u32,
     },
-    /// One more line, without its ranges.
-    AddLine {
-        /// The system.
-        system: &'a SiteName,
-        /// The line's place among the system's.
-        place: u32,
-        /// The line.
-        line: &'a Line,
-    },
-    /// One more range of a line.
-    AddRange {
-        /// The system.
-        system: &'a SiteName,
-        /// The line's place.
-        place: u32,
-        /// The first minute of the week.
-        low: u32,
-        /// The last one.
-        high: u32,
-    },
     /// One more job, without its bytes.
     AddJob {
         /// Its number.
@@ -131,17 +89,15 @@ pub enum Change<'a> {
         /// The second, in UTC.
         queued: u32,
     },
-    /// The job is removed, with its pieces.
+    /// The job is removed, with its bytes.
     RemoveJob {
         /// Its number.
         number: u32,
     },
-    /// One more piece of a job's bytes.
-    AddPiece {
+    /// The bytes of a job.
+    AddBody {
         /// The job's number.
         job: u32,
-        /// The piece's place among the job's.
-        place: u32,
         /// The bytes.
         bytes: &'a [u8],
     },

@@ -16,7 +16,6 @@ use crate::facts::Facts;
 use entry::plan_entry;
 use job::{plan_kill, plan_regrade, plan_rejuvenate};
 use link::{plan_forget, plan_queue_once};
-pub use queue::PIECE_BYTES;
 use queue::plan_queue;
 use report::{plan_done, plan_failed, plan_release};
 use std::alloc::{AllocError, Global};

@@ -1,6 +1,7 @@
 // Rows of the tables, as their columns are read and written. A job's row is its `JobHead`.
 use uu_core::Taken;
-use uu_names::{Grade, Listed, SiteName, Word};
+use uu_names::{Listed, SiteName, Word};
+use uu_times::SystemDef;
 
 /// The number of the outcome of a system that was never called.
 pub const NEVER_CALLED: u32 = 0;
@@ -38,47 +39,28 @@ pub struct CallColumns {
 /// A row of the table `systems`.
 #[derive(Drop)]
 pub struct SystemColumns {
-    /// The system's name.
-    pub name: SiteName,
-    /// After how many failures in a row calls become rare, at most 1,000,000.
-    pub max_retries: u32,
+    /// The system's definition, kept as its sys file. Its name is a column of its own, too.
+    pub def: SystemDef,
     /// How its calls went.
     pub call: CallColumns,
 }
 
-/// A row of the table `lines`.
+/// A row of the table `bodies`.
 #[derive(Drop)]
-pub struct LineColumns {
-    /// The system that the line is of.
-    pub system: SiteName,
-    /// The line's place among the system's, from 0 on.
-    pub place: u32,
-    /// The lowest grade for which a call is made, kept by its rank.
-    pub grade: Grade,
-    /// The minutes to wait after a failure, if the line says so.
-    pub retry: Option<u32>,
+pub struct Body {
+    /// The number of the job.
+    pub job: u32,
+    /// All its bytes.
+    pub bytes: Listed<u8>,
 }
 
-/// A row of the table `ranges`.
+/// A row of the table `bodies` without the bytes.
 #[derive(Drop)]
-pub struct RangeColumns {
-    /// The system that the range's line is of.
-    pub system: SiteName,
-    /// The line's place among the system's.
-    pub place: u32,
-    /// The first minute of the week at which a call is made.
-    pub low: u32,
-    /// The last one of the range.
-    pub high: u32,
-}
-
-/// A row of the table `success_waits`. A system whose success wait is 0 has no such row.
-#[derive(Drop)]
-pub struct WaitColumns {
-    /// The system.
-    pub system: SiteName,
-    /// How many seconds it is left alone after a successful call, 1 to 31,536,000.
-    pub wait: u32,
+pub struct BodySize {
+    /// The number of the job.
+    pub job: u32,
+    /// How many bytes it has.
+    pub length: u32,
 }
 
 /// A row of the table `links`. A neighbour that never said that it won't ask for some numbers again
@@ -98,17 +80,6 @@ pub struct TakenColumns {
     pub system: SiteName,
     /// What was taken from it.
     pub taken: Taken,
-}
-
-/// A row of the table `pieces` without its bytes.
-#[derive(Drop)]
-pub struct PieceSize {
-    /// The number of the job.
-    pub job: u32,
-    /// The piece's place among the job's, from 0 on.
-    pub place: u32,
-    /// How many bytes it has, at most 16,384.
-    pub length: u32,
 }
 
 /// A row of the table `entries`.

@@ -11,7 +11,7 @@ use uu_core::{By, JobHead, decide_job};
 use uu_names::Grade;
 use uu_times::Moment;
 
-/// A job that is removed, with its pieces.
+/// A job that is removed, with its bytes.
 pub(crate) fn plan_kill<'a>(
     alloc: Global,
     head: Option<&JobHead>,

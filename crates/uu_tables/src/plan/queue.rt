@@ -1,21 +1,18 @@
-// A job that is handed in, with its bytes in pieces.
-ghost use Rattle.std.specs.Prelude.{◌≡◌, ◌<◌, ◌≤◌, ℕ, IfOk, length, false};
+// A job that is handed in.
+ghost use Rattle.std.specs.Prelude.{◌≡◌, ◌<◌, ℕ, IfOk, false};
 ghost use Rattle.uu_core.specs.declared.command.Command.TheVariants.{Queue};
-ghost use Rattle.uu_core.specs.State.{State, has_system, most_bytes, numbers_end, head_of};
+ghost use Rattle.uu_core.specs.State.{State, has_system, numbers_end, head_of};
 ghost use Rattle.uu_core.specs.Verdict.{is_too_large};
 ghost use Rattle.uu_core.specs.After.{job_of};
 ghost use Rattle.uu_tables.specs.Tables.{Tables};
 ghost use Rattle.uu_tables.specs.Changes.{applied, new_job};
-ghost use Rattle.uu_tables.specs.Parts.{with_pieces, with_new_job};
+ghost use Rattle.uu_tables.specs.Parts.{with_new_job};
 ghost use Rattle.uu_tables.specs.Plans.{IsPlan};
 
 use super::{Plan, refused};
 use crate::change::{Change, JobColumns};
 use std::alloc::{AllocError, Global};
 use uu_core::{NewJob, Reply, decide_queue};
-
-/// The bytes of a piece; the last piece of a job may have fewer, but at least one.
-pub const PIECE_BYTES: usize = 16_384;
 
 // The columns of a job that isn't too large.
 fn columns_of(job: &NewJob) -> JobColumns<'_>
@@ -32,29 +29,7 @@ fn columns_of(job: &NewJob) -> JobColumns<'_>
     }
 }
 
-// Adds the changes that add the pieces of a job.
-fn add_pieces<'a>(
-    changes: &mut Vec<Change<'a>>,
-    job: u32,
-    bytes: &'a [u8],
-) -> Result<(), AllocError>
-    requires { length bytes.now ≤ most_bytes }
-    ensures { IfOk result (λ _. (t : Tables) → applied changes.new.items t ≡ with_pieces job bytes.now (applied changes.old.items t)) }
-{
-    let count = bytes.len().div_ceil(PIECE_BYTES);
-    for place in 0..count {
-        let start = place * PIECE_BYTES;
-        let end = bytes.len().min(start + PIECE_BYTES);
-        changes.push(Change::AddPiece {
-            job,
-            place: place as u32,
-            bytes: &bytes[start..end],
-        })?;
-    }
-    Ok(())
-}
-
-/// The changes that add a job under this number: its row, its pieces, and the next number.
+/// The changes that add a job under this number: its row, its bytes, and the next number.
 pub(crate) fn add_queued<'a>(
     alloc: Global,
     number: u32,
@@ -65,10 +40,12 @@ pub(crate) fn add_queued<'a>(
     ensures { IfOk result (λ changes. (t : Tables) → applied changes.items t ≡ with_new_job number job.now t) }
 {
     let columns = columns_of(job);
-    let mut changes = vec![in alloc; Change::AddJob { number, columns }]?;
-    add_pieces(&mut changes, number, job.bytes.as_slice())?;
-    changes.push(Change::SetNext { next: number + 1 })?;
-    Ok(changes)
+    let bytes = job.bytes.as_slice();
+    Ok(vec![in alloc;
+        Change::AddJob { number, columns },
+        Change::AddBody { job: number, bytes },
+        Change::SetNext { next: number + 1 },
+    ]?)
 }
 
 /// A job that is handed in.

@@ -1,29 +1,17 @@
-use Rattle.std.proofs.Common.{refl, arith}
+use Rattle.std.proofs.Common.{Ok}
 use Rattle.sqlite.specs.Held.{state}
-use Rattle.uu_schema.specs.Held.{Migrates}
-use Rattle.uu_schema.specs.Schema.{spool_schema, schema_of}
-use Rattle.uu_adopt.proofs.Becoming.{becomes_ok, becomes_err, migrates_states, halted_unmade, halted_spared}
+use Rattle.uu_schema.specs.Encoded.{HoldsAgain}
+use Rattle.uu_schema.specs.Schema.{spool_schema}
+use Rattle.uu_schema.specs.Earlier.{schema_of}
+use Rattle.uu_rows.proofs.Showing.{answered}
+use Rattle.uu_adopt.proofs.Adopting.{makes_after}
+use Rattle.uu_adopt.proofs.Inspecting.{spared_told}
 use Rattle.uu_adopt.proofs.adoption.migrate_tables.Goals as goal
 
 pub returns-in-Ok-clause-makes : goal.returns-in-Ok-clause-makes
-returns-in-Ok-clause-makes g c = record {
-  becomes = becomes_ok (schema_of c.args.from) spool_schema (Migrates c.args.from) _ (migrates_states c.args.from) (state g.S.Store c.args.conn.now) (state g.S.Store c.migrate.new.conn) c.migrate.result (rw c.in-Ok.is refl) c.migrate.ensures.whole;
-  unmade = tt;
-  clean = c.migrate.ensures.whole.survives.clean;
-}
-
-pub returns-in-Err-clause-makes : goal.returns-in-Err-clause-makes
-returns-in-Err-clause-makes g c =
+returns-in-Ok-clause-makes g c =
     let a = state g.S.Store c.args.conn.now in
-    let b = state g.S.Store c.migrate.new.conn in
-    let d = state g.S.Store c.halt_fault.new.conn in
-    record {
-      becomes = becomes_err (schema_of c.args.from) spool_schema (Migrates c.args.from) _ (migrates_states c.args.from) a b d c.migrate.result c.halt_fault.result (rw c.in-Err.is refl) c.migrate.ensures.whole c.halt_fault.ensures.memory c.halt_fault.ensures.survives;
-      unmade = halted_unmade a b d c.in-Err.halt c.migrate.result c.halt_fault.result c.in-Err.is c.halt_fault.ensures.fresh c.migrate.ensures.before c.halt_fault.ensures.commit c.halt_fault.ensures.survives;
-      clean = omega (arith, c.migrate.ensures.whole.survives.clean, c.halt_fault.ensures.survives.clean);
-    }
-
-pub returns-in-Err-clause-spared : goal.returns-in-Err-clause-spared
-returns-in-Err-clause-spared g c =
-    halted_spared (state g.S.Store c.args.conn.now) (state g.S.Store c.migrate.new.conn) (state g.S.Store c.halt_fault.new.conn) c.in-Err.halt c.migrate.result c.halt_fault.result c.in-Err.is c.halt_fault.ensures.fresh
-    c.migrate.ensures.idle c.migrate.ensures.undone c.halt_fault.ensures.commit c.halt_fault.ensures.memory c.halt_fault.ensures.survives (returns-in-Err-clause-makes g c).unmade
+    let b = state g.S.Store c.read_all_earlier.new.conn in
+    let d = state g.S.Store c.write_anew.new.conn in
+    let spares = c.read_all_earlier.ensures.reads.spares in
+    makes_after a b d (schema_of c.args.from) spool_schema (HoldsAgain c.args.from) c.write_anew.result (spared_told a b c.read_all_earlier.result (Ok tt) (answered _ _ c.in-Ok.is) spares) spares.survives.clean c.write_anew.ensures.makes

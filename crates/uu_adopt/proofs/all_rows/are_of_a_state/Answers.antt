@@ -6,4 +6,4 @@ pub returns-in_err-all : goal.returns-in_err-all
 returns-in_err-all g c = stops c.read_all_rows.ensures c.from_residual.ensures.0
 
 pub returns : goal.returns
-returns g c = answers c.in_ok-all.ensures (λ ok. refl) (λ trees found. c.verdict_on.ensures.verdict c.args.version trees found)
+returns g c = answers c.in_ok-all.ensures (λ ok. refl) (λ trees found. c.verdict_on.ensures.verdict trees found)

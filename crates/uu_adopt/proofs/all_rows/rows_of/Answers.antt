@@ -1,34 +1,26 @@
 use Rattle.std.proofs.Common.{subst}
+use Rattle.uu_schema.specs.declared.version.Version.TheVariants.{Fourth}
 use Rattle.uu_adopt.specs.Reading.{FindsNext}
-use Rattle.uu_adopt.proofs.Verdict.{no_next, no_systems, no_lines, no_ranges, no_jobs, no_pieces, no_entries, no_waits, no_links, no_taken}
+use Rattle.uu_adopt.proofs.Verdict.{no_next, no_systems, no_jobs, no_bodies, no_entries, no_links, no_taken}
 use Rattle.uu_adopt.proofs.all_rows.rows_of.Goals as goal
 
 pub returns-in_err-all-clause-none : goal.returns-in_err-all-clause-none
-returns-in_err-all-clause-none c none v trees found = no_next v trees (subst (FindsNext v trees) c.in_err-all.was found.next)
+returns-in_err-all-clause-none c none trees found = no_next Fourth trees (subst (FindsNext Fourth trees) c.in_err-all.was found.next)
 
 pub returns-in_err-as_deref-clause-none : goal.returns-in_err-as_deref-clause-none
-returns-in_err-as_deref-clause-none c none v trees found = no_systems v trees c.args.all.now.systems c.in_err-as_deref.ensures.variant found.systems
+returns-in_err-as_deref-clause-none c none trees found = no_systems trees c.args.all.now.systems c.in_err-as_deref.ensures.variant found.systems
 
 pub returns-in_err-as_deref-2-clause-none : goal.returns-in_err-as_deref-2-clause-none
-returns-in_err-as_deref-2-clause-none c none v trees found = no_lines v trees c.args.all.now.lines c.in_err-as_deref-2.ensures.variant found.lines
+returns-in_err-as_deref-2-clause-none c none trees found = no_jobs trees c.args.all.now.jobs c.in_err-as_deref-2.ensures.variant found.jobs
 
 pub returns-in_err-as_deref-3-clause-none : goal.returns-in_err-as_deref-3-clause-none
-returns-in_err-as_deref-3-clause-none c none v trees found = no_ranges v trees c.args.all.now.ranges c.in_err-as_deref-3.ensures.variant found.ranges
+returns-in_err-as_deref-3-clause-none c none trees found = no_bodies trees c.args.all.now.bodies c.in_err-as_deref-3.ensures.variant found.bodies
 
 pub returns-in_err-as_deref-4-clause-none : goal.returns-in_err-as_deref-4-clause-none
-returns-in_err-as_deref-4-clause-none c none v trees found = no_jobs v trees c.args.all.now.jobs c.in_err-as_deref-4.ensures.variant found.jobs
+returns-in_err-as_deref-4-clause-none c none trees found = no_entries trees c.args.all.now.entries c.in_err-as_deref-4.ensures.variant found.entries
 
 pub returns-in_err-as_deref-5-clause-none : goal.returns-in_err-as_deref-5-clause-none
-returns-in_err-as_deref-5-clause-none c none v trees found = no_pieces v trees c.args.all.now.pieces c.in_err-as_deref-5.ensures.variant found.pieces
+returns-in_err-as_deref-5-clause-none c none trees found = no_links trees c.args.all.now.links c.in_err-as_deref-5.ensures.variant found.links
 
 pub returns-in_err-as_deref-6-clause-none : goal.returns-in_err-as_deref-6-clause-none
-returns-in_err-as_deref-6-clause-none c none v trees found = no_entries v trees c.args.all.now.entries c.in_err-as_deref-6.ensures.variant found.entries
-
-pub returns-in_err-as_deref-7-clause-none : goal.returns-in_err-as_deref-7-clause-none
-returns-in_err-as_deref-7-clause-none c none v trees found = no_waits v trees c.args.all.now.success_waits c.in_err-as_deref-7.ensures.variant found.success_waits
-
-pub returns-in_err-as_deref-8-clause-none : goal.returns-in_err-as_deref-8-clause-none
-returns-in_err-as_deref-8-clause-none c none v trees found = no_links v trees c.args.all.now.links c.in_err-as_deref-8.ensures.variant found.links
-
-pub returns-in_err-as_deref-9-clause-none : goal.returns-in_err-as_deref-9-clause-none
-returns-in_err-as_deref-9-clause-none c none v trees found = no_taken v trees c.args.all.now.taken c.in_err-as_deref-9.ensures.variant found.taken
+returns-in_err-as_deref-6-clause-none c none trees found = no_taken trees c.args.all.now.taken c.in_err-as_deref-6.ensures.variant found.taken

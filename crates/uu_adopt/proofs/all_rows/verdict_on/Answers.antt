@@ -2,7 +2,7 @@ use Rattle.uu_adopt.proofs.Verdict.{tells}
 use Rattle.uu_adopt.proofs.all_rows.verdict_on.Goals as goal
 
 pub returns-in_default-clause-verdict : goal.returns-in_default-clause-verdict
-returns-in_default-clause-verdict c v trees found = (λ yes. absurd (cc), λ no. c.rows_of.ensures.none c.in_default.is v trees found)
+returns-in_default-clause-verdict c trees found = (λ yes. absurd (cc), λ no. c.rows_of.ensures.none c.in_default.is trees found)
 
 pub returns-in-Ok-clause-verdict : goal.returns-in-Ok-clause-verdict
-returns-in-Ok-clause-verdict c v trees found = tells v trees c.args.all.now found c.in-Some.rows c.in-Some.ensures.rows c.in-Ok.good c.in-Ok.ensures
+returns-in-Ok-clause-verdict c trees found = tells trees c.args.all.now found c.in-Some.rows c.in-Some.ensures.rows c.in-Ok.good c.in-Ok.ensures

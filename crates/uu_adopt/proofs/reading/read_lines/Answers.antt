@@ -10,19 +10,19 @@ pub ask-requires : goal.ask-requires
 ask-requires g c = line_rowids_ask
 
 pub returns-in_err-rows : goal.returns-in_err-rows
-returns-in_err-rows g c v = not_read g.S.Store v c.args.conn.now c.ask_lines.new.conn c.ask_lines.result _ c.from_residual.ensures.0 c.ask_lines.ensures.idle c.ask_lines.ensures.spares
+returns-in_err-rows g c v old = not_read g.S.Store v c.args.conn.now c.ask_lines.new.conn c.ask_lines.result _ c.from_residual.ensures.0 c.ask_lines.ensures.idle c.ask_lines.ensures.spares
 
 pub returns-in_err-ids : goal.returns-in_err-ids
-returns-in_err-ids g c v =
+returns-in_err-ids g c v old =
     none_read g.S.Store v c.args.conn.now c.ask_lines.new.conn c.ask.new.conn c.ask_lines.result (answered _ _ c.in_ok-rows.was) c.ask_lines.ensures.idle c.ask_lines.ensures.spares
     c.ask.result _ c.from_residual-in_err-ids.ensures.0 c.ask.ensures.idle c.ask.ensures.spares
 
 pub returns : goal.returns
-returns g c v =
+returns g c v old =
     let a = c.args.conn.now in
     let b = c.ask_lines.new.conn in
     let d = c.ask.new.conn in
     both_read g.S.Store v a b d c.ask_lines.result (answered _ _ c.in_ok-rows.was) c.ask_lines.ensures.idle c.ask_lines.ensures.spares
     c.ask.result c.found.result (answered _ _ c.in_ok-ids.was) c.ask.ensures.idle c.ask_lines.ensures.shows c.ask.ensures.shows c.ask.ensures.spares
     (λ early clean stands same. IfOk-weaker c.found.result _ _
-    (λ found read. finds_lines v (state g.S.Store a) (state g.S.Store b) (state g.S.Store d) c.in_ok-rows.rows.items c.in_ok-ids.ids.items stands same (c.in_ok-rows.ensures.shows.rows early) (c.in_ok-ids.ensures.shows.rows clean) found (rw (c.deref.ensures.value, c.deref-2.ensures.value) at read)) c.found.ensures.read)
+    (λ found read. finds_lines v old (state g.S.Store a) (state g.S.Store b) (state g.S.Store d) c.in_ok-rows.rows.items c.in_ok-ids.ids.items stands same (c.in_ok-rows.ensures.shows.rows early) (c.in_ok-ids.ensures.shows.rows clean) found (rw (c.deref.ensures.value, c.deref-2.ensures.value) at read)) c.found.ensures.read)

@@ -1,17 +1,13 @@
-use Rattle.sqlite.specs.Held.{state}
-use Rattle.uu_questions.specs.declared.jobs.Joined.{Joined}
-use Rattle.uu_questions.proofs.Meanings.{pieces_means}
 use Rattle.uu_rows.proofs.Showing.{answered}
-use Rattle.uu_questions.proofs.Asking.{asks_walked}
-use Rattle.uu_questions.proofs.PieceRows.{pieces_joined}
+use Rattle.uu_questions.proofs.Answering.{answer_in}
+use Rattle.uu_questions.proofs.Asking.{asks_as, asks_refused}
+use Rattle.uu_questions.proofs.JobBytes.{bytes_given}
 use Rattle.uu_questions.proofs.jobs.bytes_of_job.Goals as goal
-
-pub walk_rows-requires : goal.walk_rows-requires
-walk_rows-requires g c = pieces_means.plain
 
 pub returns : goal.returns
 returns g c =
-    let a = state g.S.Store c.args.conn.now in
-    let b = state g.S.Store c.walk_rows.new.conn in
-    asks_walked (rw c.params-to_sql.ensures at c.walk_rows.ensures) (λ ok. answered _ _ c.in_ok-walk_rows.was)
-    (λ s of rows shown took. pieces_joined (λ (j : Joined). j.bytes.items) a b s c.args.number rows _ c.walk_rows.new.taker of shown c.new.ensures.items took)
+    asks_as c.body_of_job.ensures (λ ok. answered c.body_of_job.result _ c.in_ok-body.was)
+    (λ s good it. bytes_given s c.args.number c.in_ok-body.body c.bytes_of.result (answer_in _ c.body_of_job.result _ c.in_ok-body.was it) c.bytes_of.ensures)
+
+pub returns-in_err-body : goal.returns-in_err-body
+returns-in_err-body g c = asks_refused c.body_of_job.ensures c.from_residual.ensures.0

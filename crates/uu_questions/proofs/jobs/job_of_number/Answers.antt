@@ -16,7 +16,7 @@ returns-clause-answers g c =
     then_answers _ a b c.head_of_job.result c.head_of_job.ensures.answers (answered _ _ c.in_ok-head.was) _ d c.bytes_of_job.result c.bytes_of_job.ensures.answers _ c.whole_job.result (λ ok. answered _ _ c.in_ok-bytes.was)
     (λ s good h k. IfOk-weaker c.whole_job.result _ _
     (λ found is. subst (λ o. option_map handed_out o ≡ option_map head_and_bytes (job_at s c.args.number)) (sym is)
-    (handed s c.args.number c.in-Some.head c.in_ok-bytes.bytes good (sym c.in-Some.is ∙ answer_in _ c.head_of_job.result _ c.in_ok-head.was h) (answer_in _ c.bytes_of_job.result _ c.in_ok-bytes.was k)))
+    (handed s c.args.number c.in-Some.head c.in_ok-bytes.bytes (sym c.in-Some.is ∙ answer_in _ c.head_of_job.result _ c.in_ok-head.was h) (answer_in _ c.bytes_of_job.result _ c.in_ok-bytes.was k)))
     c.whole_job.ensures.job)
 
 pub returns-clause-size : goal.returns-clause-size

@@ -1,6 +1,6 @@
 use Rattle.uu_schema.proofs.Statements.{executed}
 use Rattle.uu_schema.proofs.Texts.{create_entries}
-use Rattle.uu_schema.proofs.Made.{entries_made}
+use Rattle.uu_schema.proofs.Meanings.{entries_made}
 use Rattle.uu_schema.proofs.tables.create_entries.Goals as goal
 
 pub returns : goal.returns

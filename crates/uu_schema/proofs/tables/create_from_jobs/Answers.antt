@@ -1,5 +1,5 @@
-use Rattle.uu_schema.proofs.Statements.{step_then}
+use Rattle.uu_schema.proofs.Statements.{step_then, step_weaker}
 use Rattle.uu_schema.proofs.tables.create_from_jobs.Goals as goal
 
 pub returns : goal.returns
-returns g c = step_then c.in_ok-create_jobs.ensures c.create_from_pieces.ensures
+returns g c = step_weaker (λ x y both none. both.second (both.first none)) (step_then c.in_ok-create_jobs.ensures c.create_from_bodies.ensures)

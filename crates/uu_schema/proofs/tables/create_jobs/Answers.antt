@@ -1,6 +1,6 @@
 use Rattle.uu_schema.proofs.Statements.{executed}
 use Rattle.uu_schema.proofs.Texts.{create_jobs}
-use Rattle.uu_schema.proofs.Made.{jobs_made}
+use Rattle.uu_schema.proofs.Meanings.{jobs_made}
 use Rattle.uu_schema.proofs.tables.create_jobs.Goals as goal
 
 pub returns : goal.returns

@@ -1,6 +1,6 @@
 use Rattle.uu_schema.proofs.Statements.{executed}
 use Rattle.uu_schema.proofs.Texts.{create_links}
-use Rattle.uu_schema.proofs.Made.{links_made}
+use Rattle.uu_schema.proofs.Meanings.{links_made}
 use Rattle.uu_schema.proofs.tables.create_links.Goals as goal
 
 pub returns : goal.returns

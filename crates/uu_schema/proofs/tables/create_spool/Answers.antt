@@ -1,6 +1,6 @@
 use Rattle.uu_schema.proofs.Statements.{executed}
 use Rattle.uu_schema.proofs.Texts.{create_spool}
-use Rattle.uu_schema.proofs.Made.{spool_made}
+use Rattle.uu_schema.proofs.Meanings.{spool_made}
 use Rattle.uu_schema.proofs.tables.create_spool.Goals as goal
 
 pub returns : goal.returns

@@ -1,6 +1,6 @@
 use Rattle.uu_schema.proofs.Statements.{executed}
 use Rattle.uu_schema.proofs.Texts.{create_systems}
-use Rattle.uu_schema.proofs.Made.{systems_made}
+use Rattle.uu_schema.proofs.Meanings.{systems_made}
 use Rattle.uu_schema.proofs.tables.create_systems.Goals as goal
 
 pub returns : goal.returns

@@ -1,6 +1,6 @@
 use Rattle.uu_schema.proofs.Statements.{executed}
 use Rattle.uu_schema.proofs.Texts.{create_taken}
-use Rattle.uu_schema.proofs.Made.{taken_made}
+use Rattle.uu_schema.proofs.Meanings.{taken_made}
 use Rattle.uu_schema.proofs.tables.create_taken.Goals as goal
 
 pub returns : goal.returns

@@ -1,6 +1,6 @@
 use Rattle.uu_schema.proofs.Statements.{executed}
 use Rattle.uu_schema.proofs.Texts.{insert_spool}
-use Rattle.uu_schema.proofs.Made.{spool_begun}
+use Rattle.uu_schema.proofs.SpoolRow.{spool_begun}
 use Rattle.uu_schema.proofs.tables.insert_spool.Goals as goal
 
 pub returns : goal.returns

@@ -3,23 +3,14 @@ use Rattle.uu_statements.proofs.changes.write.Goals as goal
 pub returns-in-AddSystem : goal.returns-in-AddSystem
 returns-in-AddSystem g c = rw c.in-AddSystem.is c.add_system.ensures
 
-pub returns-in-SetMaxRetries : goal.returns-in-SetMaxRetries
-returns-in-SetMaxRetries g c = rw c.in-SetMaxRetries.is c.set_max_retries.ensures
+pub returns-in-SetDefinition : goal.returns-in-SetDefinition
+returns-in-SetDefinition g c = rw c.in-SetDefinition.is c.set_definition.ensures
 
 pub returns-in-SetCall : goal.returns-in-SetCall
 returns-in-SetCall g c = rw c.in-SetCall.is c.set_call.ensures
 
 pub returns-in-RemoveSystem : goal.returns-in-RemoveSystem
 returns-in-RemoveSystem g c = rw c.in-RemoveSystem.is c.remove_system.ensures
-
-pub returns-in-RemoveLines : goal.returns-in-RemoveLines
-returns-in-RemoveLines g c = rw c.in-RemoveLines.is c.remove_lines.ensures
-
-pub returns-in-AddLine : goal.returns-in-AddLine
-returns-in-AddLine g c = rw c.in-AddLine.is c.add_line.ensures
-
-pub returns-in-AddRange : goal.returns-in-AddRange
-returns-in-AddRange g c = rw c.in-AddRange.is c.add_range.ensures
 
 pub returns-in-AddJob : goal.returns-in-AddJob
 returns-in-AddJob g c = rw c.in-AddJob.is c.add_job.ensures
@@ -33,8 +24,8 @@ returns-in-SetQueued g c = rw c.in-SetQueued.is c.set_queued.ensures
 pub returns-in-RemoveJob : goal.returns-in-RemoveJob
 returns-in-RemoveJob g c = rw c.in-RemoveJob.is c.remove_job.ensures
 
-pub returns-in-AddPiece : goal.returns-in-AddPiece
-returns-in-AddPiece g c = rw c.in-AddPiece.is c.add_piece.ensures
+pub returns-in-AddBody : goal.returns-in-AddBody
+returns-in-AddBody g c = rw c.in-AddBody.is c.add_body.ensures
 
 pub returns-in-RemoveEntry : goal.returns-in-RemoveEntry
 returns-in-RemoveEntry g c = rw c.in-RemoveEntry.is c.remove_entry.ensures
@@ -44,12 +35,6 @@ returns-in-AddEntry g c = rw c.in-AddEntry.is c.add_entry.ensures
 
 pub returns-in-SetNext : goal.returns-in-SetNext
 returns-in-SetNext g c = rw c.in-SetNext.is c.set_next.ensures
-
-pub returns-in-AddSuccessWait : goal.returns-in-AddSuccessWait
-returns-in-AddSuccessWait g c = rw c.in-AddSuccessWait.is c.add_success_wait.ensures
-
-pub returns-in-RemoveSuccessWait : goal.returns-in-RemoveSuccessWait
-returns-in-RemoveSuccessWait g c = rw c.in-RemoveSuccessWait.is c.remove_success_wait.ensures
 
 pub returns-in-AddLink : goal.returns-in-AddLink
 returns-in-AddLink g c = rw c.in-AddLink.is c.add_link.ensures

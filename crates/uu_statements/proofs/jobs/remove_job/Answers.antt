@@ -1,9 +1,5 @@
-use Rattle.uu_schema.proofs.Statements.{executed}
-use Rattle.uu_statements.proofs.Texts.{delete_job}
-use Rattle.uu_statements.proofs.Removed.{job_gone}
+use Rattle.uu_schema.proofs.Statements.{step_then, step_weaker}
 use Rattle.uu_statements.proofs.jobs.remove_job.Goals as goal
 
 pub returns : goal.returns
-returns g c =
-    executed delete_job _ c.execute.ensures.same_reference c.execute.ensures.ended c.execute.ensures.runs c.execute.ensures.survives
-    (λ count stands ran. job_gone _ _ c.args.number count stands (rw (c.params-to_sql.ensures) at ran))
+returns g c = step_weaker (λ x y both t held. both.second _ (both.first t held)) (step_then c.in_ok-delete_job.ensures c.delete_body.ensures)

@@ -1,17 +1,14 @@
 use Rattle.std.proofs.Common.{◌∙◌, ◌∷◌, ◌+◌, [], ap}
-use Rattle.uu_tables.specs.declared.change.Change.TheVariants.{SetNext}
-use Rattle.uu_tables.specs.Changes.{apply, applied}
-use Rattle.uu_tables.specs.Parts.{with_pieces}
-use Rattle.uu_tables.proofs.PlanLemmas.{applied_append}
-use Rattle.uu_tables.proofs.PieceLemmas.{one_queued}
+use Rattle.uu_tables.specs.Changes.{append, applied, new_job}
+use Rattle.uu_tables.specs.Tables.{body_of}
+use Rattle.uu_core.specs.After.{job_of}
 use Rattle.uu_tables.proofs.plan.queue.add_queued.Goals as goal
 
 pub returns : goal.returns
 returns c t =
     let job = c.args.job.now in
     let number = c.args.number in
-    ap (λ l. applied l t) c.in_ok-push.ensures.items ∙ applied_append c.add_pieces.new.changes.items (SetNext (number + 1) ∷ []) t
-    ∙ ap (apply (SetNext (number + 1))) (c.in_ok-add_pieces.ensures t)
-    ∙ ap (λ all. apply (SetNext (number + 1)) (with_pieces number all (applied c.in_ok-changes.changes.items t))) c.as_slice.ensures
-    ∙ ap (λ l. apply (SetNext (number + 1)) (with_pieces number job.bytes (applied l t))) c.in_ok-changes.ensures.items
-    ∙ one_queued number job c.columns_of-columns.result t c.columns_of-columns.ensures
+    let row = new_job number c.columns_of-columns.result in
+    ap (λ l. applied l t) c.in_ok-vec.ensures.items
+    ∙ ap (λ all. record t { next = number + 1; jobs = append row t.jobs; bodies = append (record { job = number; bytes = all }) t.bodies }) c.as_slice-bytes.ensures
+    ∙ ap (λ head. record t { next = number + 1; jobs = append head t.jobs; bodies = append (body_of (job_of number job)) t.bodies }) (c.columns_of-columns.ensures number)

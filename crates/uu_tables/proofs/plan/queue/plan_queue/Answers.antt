@@ -5,7 +5,7 @@ use Rattle.uu_core.specs.Verdict.{queue_reasons}
 use Rattle.uu_tables.specs.Tables.{tables_of}
 use Rattle.uu_tables.specs.Parts.{with_new_job}
 use Rattle.uu_tables.proofs.PlanLemmas.{when_accepted, when_refused, accepts, refuses}
-use Rattle.uu_tables.proofs.PieceLemmas.{queued}
+use Rattle.uu_tables.proofs.JobLemmas.{queued}
 use Rattle.uu_tables.proofs.plan.queue.plan_queue.Goals as goal
 
 pub returns-in_ok-changes-in-Ok : goal.returns-in_ok-changes-in-Ok

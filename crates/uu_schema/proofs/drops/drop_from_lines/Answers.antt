@@ -1,0 +1,5 @@
+use Rattle.uu_schema.proofs.Statements.{step_then, step_weaker}
+use Rattle.uu_schema.proofs.drops.drop_from_lines.Goals as goal
+
+pub returns : goal.returns
+returns g c = step_weaker (λ x y step. tt) (step_then c.in_ok-drop_lines.ensures c.drop_from_systems.ensures)

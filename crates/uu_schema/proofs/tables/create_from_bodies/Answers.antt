@@ -1,0 +1,5 @@
+use Rattle.uu_schema.proofs.Statements.{step_then, step_weaker}
+use Rattle.uu_schema.proofs.tables.create_from_bodies.Goals as goal
+
+pub returns : goal.returns
+returns g c = step_weaker (λ x y both none. both.second (both.first none)) (step_then c.in_ok-create_bodies.ensures c.create_from_entries.ensures)

@@ -1,5 +1,0 @@
-use Rattle.uu_schema.proofs.Statements.{step_then}
-use Rattle.uu_schema.proofs.tables.create_from_taken.Goals as goal
-
-pub returns : goal.returns
-returns g c = step_then c.in_ok-create_taken.ensures c.insert_spool.ensures

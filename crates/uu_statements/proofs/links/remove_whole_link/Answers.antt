@@ -1,0 +1,5 @@
+use Rattle.uu_schema.proofs.Statements.{step_then, step_weaker}
+use Rattle.uu_statements.proofs.links.remove_whole_link.Goals as goal
+
+pub returns : goal.returns
+returns g c = step_weaker (λ x y both t held. both.second _ (both.first t held)) (step_then c.in_ok-remove_link.ensures c.delete_taken.ensures)

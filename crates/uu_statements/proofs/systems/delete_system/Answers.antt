@@ -1,0 +1,9 @@
+use Rattle.uu_schema.proofs.Statements.{executed}
+use Rattle.uu_statements.proofs.Texts.{delete_system}
+use Rattle.uu_statements.proofs.Removed.{system_gone}
+use Rattle.uu_statements.proofs.systems.delete_system.Goals as goal
+
+pub returns : goal.returns
+returns g c =
+    executed delete_system _ c.execute.ensures.same_reference c.execute.ensures.ended c.execute.ensures.runs c.execute.ensures.survives
+    (λ count stands ran. system_gone _ _ c.args.system.now count stands (rw (c.params-to_sql.ensures, c.as_str.ensures.text) at ran))

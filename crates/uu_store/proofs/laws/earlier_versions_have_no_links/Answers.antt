@@ -1,5 +1,0 @@
-use Rattle.uu_store.proofs.NoLinks.{no_links}
-use Rattle.uu_store.proofs.laws.earlier_versions_have_no_links.Goals as goal
-
-pub returns : goal.returns
-returns c v database s early enc = no_links v database s early enc
