@@ -1,5 +1,5 @@
 -- What the words of a line ask for is of a line of texts.
-use Rattle.std.proofs.Common.{◌≡◌, ◌⊎◌, ◌++◌, ℕ, List, [], ◌∷◌, map, Contains, Option, Some, None, Result, Ok, Err, refl, sym, ap, subst, ◌∙◌, arith, inl, inr, append-nil, append_assoc, cond, All}
+use Rattle.std.proofs.Common.{◌≡◌, ◌⊎◌, ◌++◌, ℕ, List, [], ◌∷◌, map, Contains, Option, Some, None, Result, Ok, Err, refl, sym, ap, subst, ◌∙◌, arith, inl, inr, append-nil, append_assoc, cond, All, Bool, true, false, if◌then◌else◌}
 use Rattle.std.proofs.Common.{get_or}
 use Rattle.uu_times.specs.SysFile.{sys_file_of}
 use Rattle.uu_times.specs.declared.system.SysFile.{SysFile}
@@ -37,6 +37,7 @@ use Rattle.uu_request.specs.declared.request.CommandList.{CommandList}
 use Rattle.uu_request.specs.declared.request.Question.{Question}
 use Rattle.uu_request.specs.declared.request.Request.{Request}
 use Rattle.uu_request.specs.declared.request.Request.TheVariants as request
+use Rattle.uuspool.specs.Mail.{mail_by}
 use Rattle.uuspool.specs.Served.{AreCommandsOf}
 use Rattle.uuspool.specs.ServedLines.{ServedLine}
 use Rattle.uu_carriers.specs.Texts.{Places, chart_of, IsBrought, unpack, settle, other, IsOfLine}
@@ -171,6 +172,8 @@ module _ (places : Places) (packed : List Bundle) (lines : List ServedLine) (cov
   of_unpack from onward (request.Question it) commands given may asks are there = absurd (none_in given (subst (λ l. Contains l given) are there))
   of_unpack from onward (request.Settling it) commands given may (Err why, is, same) are there = absurd (cc)
   of_unpack from onward (request.Settling it) commands given may (Ok bundle, is, same) are there = absurd (cc)
+  of_unpack from onward (request.Mailing mail) commands given may (Err why, is, same) are there = absurd (cc)
+  of_unpack from onward (request.Mailing mail) commands given may (Ok bundle, is, same) are there = absurd (cc)
   of_unpack from onward (request.Commands list) commands given may (Err why, is, same) are there = absurd (cc)
   of_unpack from onward (request.Commands list) commands given may (Ok bundle, is, same) are there = absurd (cc)
 
@@ -189,6 +192,8 @@ module _ (places : Places) (packed : List Bundle) (lines : List ServedLine) (cov
         there,
       )
   of_settle from spool (request.Question it) commands given may asks are there = absurd (none_in given (subst (λ l. Contains l given) are there))
+  of_settle from spool (request.Mailing mail) commands given may (Err why, is, same) are there = absurd (cc)
+  of_settle from spool (request.Mailing mail) commands given may (Ok bundle, is, same) are there = absurd (cc)
   of_settle from spool (request.Commands list) commands given may (Err why, is, same) are there = absurd (cc)
   of_settle from spool (request.Commands list) commands given may (Ok bundle, is, same) are there = absurd (cc)
   of_settle from spool (request.Unpacking it) commands given may (Err why, is, same) are there = absurd (cc)
@@ -205,6 +210,16 @@ module _ (places : Places) (packed : List Bundle) (lines : List ServedLine) (cov
 
     of_none : (it : Question) → granted asked ≡ Ok (request.Question it) → Of given
     of_none it same = absurd (by_none asked it given commands same are there)
+
+    of_mail : (mail : NewJob) → AreCommandsOf (request.Mailing mail) commands → Of given
+    of_mail mail (inl none) = absurd (none_in given (subst (λ l. Contains l given) none there))
+    of_mail mail (inr (way, is)) = subst Of (single (command.Queue (mail_by way mail)) given commands is there) (beside (command.Queue (mail_by way mail)) (λ line. (λ b. tt, λ e. tt)))
+
+    -- a job that may go by the map, or not
+    of_job : (once : Option Origin) (text : List ℕ) (job : NewJob) (by_map : Bool) → IsOfNoNeighbour places site once
+        → granted asked ≡ Ok (if by_map then request.Mailing job else one (queue_command (key_of once text) job)) → Of given
+    of_job once text job true may same = let is : asked ≡ request.Mailing job = cc in of_mail job (subst (λ r. AreCommandsOf r commands) is are)
+    of_job once text job false may same = of_one (queue_command (key_of once text) job) same (of_hand_in once text job may)
 
     of_load : (file : Result SysFile TimeFault) → granted asked ≡ load_request file → Of given
     of_load (Err why) same = absurd (cc)
@@ -227,8 +242,8 @@ module _ (places : Places) (packed : List Bundle) (lines : List ServedLine) (cov
     of_task (task.Drop system) may asks = of_one (command.Remove system) asks (beside (command.Remove system) (λ line. (λ b. tt, λ e same. may (line, e, sym same))))
     of_task (task.Send system source target grade once) may asks = of_one _ asks (of_hand_in once _ _ may)
     of_task (task.Request system source target grade once) may asks = of_one _ asks (of_hand_in once _ _ may)
-    of_task (task.Execute grade once system what arguments) may asks = of_one _ asks (of_hand_in once _ _ may)
-    of_task (task.Mail grade once system rests) may asks = of_one _ asks (of_hand_in once _ _ may)
+    of_task (task.Execute grade once system what arguments) may asks = of_job once _ _ _ may asks
+    of_task (task.Mail grade once system rests) may asks = of_job once _ _ _ may asks
     of_task (task.Kill job) may asks = of_one _ asks (beside _ (λ line. (λ b. tt, λ e. tt)))
     of_task (task.Regrade job grade) may asks = of_one _ asks (beside _ (λ line. (λ b. tt, λ e. tt)))
     of_task (task.Rejuvenate job) may asks = of_one _ asks (beside _ (λ line. (λ b. tt, λ e. tt)))

@@ -476,6 +476,12 @@ const LINES: &[LineCase] = &[
         ("route phs", b""),
         "phs\tduke!phs!%s\n",
     ),
+    (
+        "serve (mail by the map)",
+        &[LOAD, Act::Line("map", MAP)],
+        ("--at 1000000000 --as ann mail phs!bob", MESSAGE),
+        "job 1\n",
+    ),
 ];
 
 /// The lines of the program. Each function that names a large table costs much proof time.

@@ -2,7 +2,7 @@
 -- requesting files, executing commands, killing and rejuvenating jobs: Taylor UUCP 1.07 manual, on
 -- uucp, uux and uustat. `rmail` and its envelope: RFC 976. The subcommands and what else they ask
 -- are this project's choice.)
-use Rattle.std.specs.Prelude.{◌≡◌, ℕ, ◌≤◌, ◌⊎◌, Bool, false, ◌&&◌, nat_lt, length, List, [], ◌∷◌, map, Option, Some, None, Result, Ok, Err, IsTrue, codes, ⊤, slice_range}
+use Rattle.std.specs.Prelude.{◌≡◌, ℕ, ◌≤◌, ◌⊎◌, Bool, false, ◌&&◌, nat_le, nat_lt, length, List, [], ◌∷◌, map, Option, Some, None, is_none, Result, Ok, Err, IsTrue, codes, ⊤, slice_range, if◌then◌else◌}
 use Rattle.std.specs.List.{list_any}
 use Rattle.uu_names.specs.Envelope.{envelope_of}
 use Rattle.uu_names.specs.Text.{most_text}
@@ -55,10 +55,22 @@ abbrev pub queue_command : Option Key → NewJob → Command
 queue_command None job = command.Queue job
 queue_command (Some key) job = command.QueueOnce key job
 
+-- mail: the system runs `rmail` with addresses
+abbrev pub is_mail : Kind → Bool
+is_mail (kind.Execute command arguments) = same_text command (codes "rmail") && nat_le 1 (length arguments)
+is_mail other = false
+
+-- Mail of this site may go by the map. What a neighbour hands on never does.
+abbrev pub may_go_by_map : Option Key → Kind → Bool
+may_go_by_map key kind = is_mail kind && is_none key
+
+abbrev pub queue_job : Option Key → NewJob → Request
+queue_job key job = if may_go_by_map key job.kind then request.Mailing job else one (queue_command key job)
+
 -- a job is handed in now
 abbrev pub queue : Option Key → List ℕ → Moment → List ℕ → ℕ → Kind → List ℕ → Request
 queue key user at system grade kind bytes =
-    one (queue_command key (record { system = system; grade = grade; user = user; kind = kind; bytes = bytes; at = at }))
+    queue_job key (record { system = system; grade = grade; user = user; kind = kind; bytes = bytes; at = at })
 
 -- A message: the system runs `rmail` with its arguments, and the envelope as its input, with the
 -- site's local date and time and the site's name.

@@ -1,4 +1,5 @@
-//! What a line asks of a spool: commands, one after the other, one question, or a neighbour's bundle.
+//! What a line asks of a spool: commands, one after the other, one question, mail, or a neighbour's
+//! bundle.
 
 ghost use Rattle.std.specs.Prelude.{◌≡◌, ◌≤◌, Ok, IsTrue, length};
 ghost use Rattle.std.specs.List.{list_any};
@@ -32,6 +33,9 @@ pub enum Request {
     Commands(CommandList),
     /// One question, which changes nothing.
     Question(Question),
+    /// One command, which depends on the spool's state: mail of this site is queued for its system
+    /// or, if the site doesn't have that, by the map.
+    Mailing(NewJob),
     /// One command, which depends on the spool's state: the jobs that a neighbour has are removed.
     Settling(Settling),
     /// A bundle of a neighbour's, which is taken whole or not at all.
@@ -319,7 +323,8 @@ pub(crate) fn one(alloc: Global, command: Command) -> Result<Request, RequestFau
     }))
 }
 
-/// A job of these bytes is handed in now, under the key if there is one.
+/// A job of these bytes is handed in now, under the key if there is one. Mail without a key may go by
+/// the map.
 pub(crate) fn queue(
     alloc: Global,
     key: Option<Key>,
@@ -340,9 +345,24 @@ pub(crate) fn queue(
         bytes: Listed::from_vec(bytes),
         at,
     };
+    if is_mail(&job.kind) && key.is_none() {
+        return Ok(Request::Mailing(job));
+    }
     match key {
         Some(key) => one(alloc, Command::QueueOnce(key, job)),
         None => one(alloc, Command::Queue(job)),
+    }
+}
+
+// Whether the system runs `rmail` with addresses.
+fn is_mail(kind: &Kind) -> bool
+    ensures { result ≡ spec.is_mail kind.now }
+{
+    match kind {
+        Kind::Execute { command, arguments } => {
+            command.as_str() == "rmail" && !arguments.as_slice().is_empty()
+        }
+        _ => false,
     }
 }
 

@@ -23,7 +23,7 @@ use Rattle.uu_report.specs.Replies.{reply_text}
 use Rattle.uu_request.specs.declared.request.CommandList.{CommandList}
 use Rattle.uu_request.specs.declared.request.Request.TheVariants as request
 use Rattle.uuspool.proofs.ServedLemmas.{IsOfPrinting, broken_of_nothing, chosen_so, end_is_late, marked_is_of_call, printed, printed_as}
-use Rattle.uuspool.specs.Served.{IsBrokenOff, IsEvery, IsNoted, IsOfCall, IsOutput, IsPrinted, IsPrintedEnd, IsServed, Marks}
+use Rattle.uuspool.specs.Served.{AreCommandsIn, IsBrokenOff, IsEvery, IsNoted, IsOfCall, IsOutput, IsPrinted, IsPrintedEnd, IsServed, Marks}
 use Rattle.uuspool.specs.declared.fault.Fault.{Fault}
 use Rattle.uuspool.specs.declared.fault.Fault.TheVariants as fault
 
@@ -88,7 +88,7 @@ pub run_served : {S : Type 0} {g : Ghosts S} (settings : Settings) (list : Comma
 run_served settings list old new written end r ran every marked noted failed call ends = record {
   commands = list.commands;
   are = refl;
-  chosen = λ clean s shown. chosen_so r list.commands list.commands refl;
+  chosen = λ clean s shown. chosen_so (AreCommandsIn settings s (request.Commands list)) r list.commands refl;
   replies = end.replies.items;
   stopped = end.stopped;
   ran = ran;

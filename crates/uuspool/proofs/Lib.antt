@@ -7,6 +7,7 @@ pub mod BundleLemmas
 pub mod EndLemmas
 pub mod FaultExamples
 pub mod LineLemmas
+pub mod MailLemmas
 pub mod KeyLemmas
 pub mod PackedLemmas
 pub mod PairLemmas

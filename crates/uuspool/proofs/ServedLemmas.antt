@@ -17,7 +17,7 @@ use Rattle.uu_settings.specs.declared.settings.Settings.{Settings}
 use Rattle.uu_request.specs.declared.request.Question.{Question}
 use Rattle.uu_request.specs.declared.request.Request.TheVariants as request
 use Rattle.uuspool.specs.Answers.{IsAnswer}
-use Rattle.uuspool.specs.Served.{AreChosen, IsBrokenOff, IsLate, IsNoted, IsOfCall, IsPrinted, IsServed, Marks}
+use Rattle.uuspool.specs.Served.{AreChosen, AreCommandsIn, IsBrokenOff, IsLate, IsNoted, IsOfCall, IsPrinted, IsServed, Marks}
 use Rattle.uuspool.specs.declared.fault.Fault.{Fault}
 use Rattle.uuspool.specs.declared.fault.Fault.TheVariants as fault
 
@@ -188,9 +188,9 @@ printed (Err f) made status written P Q into is same (inr memory) cut nothing ha
 -- ---- commands
 
 -- the commands are those in the state
-pub chosen_so : (r : Result ℕ Fault) (commands chosen : List Command) → commands ≡ chosen → AreChosen commands chosen r
-chosen_so (Ok status) commands chosen same = same
-chosen_so (Err why) commands chosen same = inl same
+pub chosen_so : (Are : List Command → Type 0) (r : Result ℕ Fault) (commands : List Command) → Are commands → AreChosen commands Are r
+chosen_so Are (Ok status) commands is = is
+chosen_so Are (Err why) commands is = inl is
 
 -- ---- questions
 
@@ -206,7 +206,7 @@ module _ {S : Type 0} {g : Ghosts S} (settings : Settings) (q : Question) (old n
   question_served r ran marked shows answered = record {
     commands = [];
     are = refl;
-    chosen = λ clean s shown. chosen_so r [] [] refl;
+    chosen = λ clean s shown. chosen_so (AreCommandsIn settings s (request.Question q)) r [] refl;
     replies = [];
     stopped = None;
     ran = ran;

@@ -19,7 +19,7 @@ use Rattle.uu_store.specs.Spool.{Shows, disk, has_failed}
 use Rattle.uu_store.specs.declared.spool.Spool.{Spool}
 use Rattle.uu_settings.specs.declared.settings.Settings.{Settings}
 use Rattle.uu_request.specs.declared.request.Request.{Request}
-use Rattle.uu_request.specs.declared.request.Request.TheVariants.{Commands, Question, Settling, Unpacking}
+use Rattle.uu_request.specs.declared.request.Request.TheVariants.{Commands, Question, Mailing, Settling, Unpacking}
 use Rattle.uuspool.proofs.ServedLemmas.{printed_as}
 use Rattle.uuspool.specs.Served.{AreCommandsOf, WordsAsk, EndsAs, IsBrokenOff, IsEvery, IsFaultOf, IsOutput, IsPrinted, IsServed, answered_text, in_hand}
 use Rattle.uuspool.specs.ServedLines.{ServedRequest, ServedLine, AllGoOn, AreLeft, AreServed, goes_on, IsTold, IsToldAs, IsUnasked, AreTold, IsOneRun, NoneOnceLeft, commands_asked, in_hand_of, last_in_hand, left_fault}
@@ -99,6 +99,7 @@ all_answered : (failed : Bool) (request : Request) (commands : List Command) (re
     → IsEvery failed request commands replies stopped → stopped ≡ None → length replies ≡ length commands
 all_answered failed (Commands list) commands replies stopped are every none = (every.0 none).1
 all_answered failed (Question question) commands replies stopped are every none = ap length every ∙ sym (ap length are)
+all_answered failed (Mailing mail) commands replies stopped are every none = every none
 all_answered failed (Settling it) commands replies stopped are every none = every none
 all_answered failed (Unpacking it) commands replies stopped are every none = (every.0 none).1
 

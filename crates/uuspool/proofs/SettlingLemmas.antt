@@ -26,7 +26,7 @@ use Rattle.uuspool.proofs.ServedLemmas.{chosen_so, failed_alone, marks_of_call, 
 use Rattle.uuspool.proofs.ServedLinesLemmas.{Joins}
 use Rattle.uuspool.specs.Bundles.{IsSettleOutput, as_told, is_refused_still, numbers_told, refused_still, release_of, rising, settled_by}
 use Rattle.uuspool.specs.Internal.Asked.{IsAsked}
-use Rattle.uuspool.specs.Served.{AreCommandsOf, IsNoted, IsOfCall, IsPrinted, IsServed, Marks}
+use Rattle.uuspool.specs.Served.{AreCommandsIn, AreCommandsOf, IsNoted, IsOfCall, IsPrinted, IsServed, Marks}
 use Rattle.uuspool.specs.declared.fault.Fault.{Fault}
 use Rattle.uuspool.specs.declared.fault.Fault.TheVariants as fault
 
@@ -157,7 +157,7 @@ module _ {S : Type 0} {g : Ghosts S} (settings : Settings) (it : Settling) (old 
       replies = replies;
       stopped = None;
       are = are;
-      chosen = λ clean s shown. chosen_so r commands _ (asked.answer (clean_at None ran clean) s shown tt).0.0;
+      chosen = λ clean s shown. chosen_so (AreCommandsIn settings s (request.Settling it)) r commands (asked.answer (clean_at None ran clean) s shown tt).0.0;
       ran = ran_all None ran;
       every = λ none. answered;
       printed = λ none. printed_as (λ output status. (output ≡ report) × (status ≡ 0)) _ written written r

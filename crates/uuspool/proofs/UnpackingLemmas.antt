@@ -15,7 +15,7 @@ use Rattle.uu_report.specs.Outputs.{output_text, replies_status}
 use Rattle.uu_request.specs.declared.request.Request.TheVariants as request
 use Rattle.uu_request.specs.declared.request.Unpacking.{Unpacking}
 use Rattle.uuspool.proofs.ServedLemmas.{chosen_so, never_failed, printed_as, printed_is_late}
-use Rattle.uuspool.specs.Served.{IsOutput, IsPrinted, IsServed, in_hand}
+use Rattle.uuspool.specs.Served.{AreCommandsIn, IsOutput, IsPrinted, IsServed, in_hand}
 use Rattle.uuspool.specs.declared.fault.Fault.{Fault}
 
 -- the output of these replies, and their status
@@ -32,7 +32,7 @@ module _ {S : Type 0} {g : Ghosts S} (settings : Settings) (it : Unpacking) (old
     replies = replies;
     stopped = None;
     are = refl;
-    chosen = λ clean s shown. chosen_so r (commands_in it.bundle) (commands_in it.bundle) refl;
+    chosen = λ clean s shown. chosen_so (AreCommandsIn settings s (request.Unpacking it)) r (commands_in it.bundle) refl;
     ran = ran;
     every = ((λ none. (marked.0, answered)), (λ all. refl));
     printed = λ none. printed_as (IsOfThem it replies) _ written written r (λ output status is. (is, output_in output status is)) (λ output wrote. wrote) printed;

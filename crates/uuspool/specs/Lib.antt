@@ -4,6 +4,7 @@ pub mod Lines
 pub mod Bundles
 pub mod Answers
 pub mod Routes
+pub mod Mail
 pub mod Served
 pub mod ServedLines
 pub mod Batch

@@ -1,6 +1,6 @@
 -- What a command line asks of a spool, what the program prints, and its status. All of it is
 -- this project's choice.
-use Rattle.std.specs.Prelude.{◌≡◌, ◌≢◌, ◌↔◌, ◌⊎◌, ℕ, pos, Bool, true, false, IsTrue, Option, Some, None, MatchOption, List, [], Result, Ok, Err, IfErr, All, Contains, ⊤, unwrap_or, length, ◌+◌}
+use Rattle.std.specs.Prelude.{◌≡◌, ◌≢◌, ◌↔◌, ◌⊎◌, ℕ, pos, Bool, true, false, IsTrue, Option, Some, None, MatchOption, List, [], ◌∷◌, Result, Ok, Err, IfErr, All, Contains, ⊤, unwrap_or, length, ◌+◌}
 use Rattle.sqlite.specs.Store.{Ghosts}
 use Rattle.sqlite.specs.State.{HasCleanDisk}
 use Rattle.uu_times.specs.Moment.{IsPast, IsDateTimeAt, local_second, week_minute}
@@ -10,6 +10,7 @@ use Rattle.uu_core.specs.State.{State}
 use Rattle.uu_core.specs.Run.{state_after, replies_to}
 use Rattle.uu_core.specs.TakeIns.{commands_in}
 use Rattle.uu_core.specs.declared.command.Command.{Command}
+use Rattle.uu_core.specs.declared.command.Command.TheVariants.{Queue}
 use Rattle.uu_core.specs.declared.command.Reply.{Reply}
 use Rattle.uu_schema.specs.declared.fault.StoreFault.{StoreFault}
 use Rattle.uu_schema.specs.declared.fault.StoreFault.TheVariants as store
@@ -23,15 +24,17 @@ use Rattle.uu_line.specs.Lines.{AreRefused, MeansLine}
 use Rattle.uu_line.specs.declared.line.CommandLine.{CommandLine}
 use Rattle.uu_settings.specs.declared.settings.Settings.{Settings}
 use Rattle.uu_core.specs.declared.subject.Subject.{Subject}
+use Rattle.uu_core.specs.declared.subject.Subject.TheVariants.{Line}
 use Rattle.uu_report.specs.Outputs.{answers_text, output_text, replies_status}
 use Rattle.uu_request.specs.Requests.{LineAsks}
 use Rattle.uu_request.specs.declared.fault.RequestFault.{RequestFault}
 use Rattle.uu_request.specs.declared.fault.RequestFault.TheVariants as asking
 use Rattle.uu_request.specs.declared.request.Request.{Request}
-use Rattle.uu_request.specs.declared.request.Request.TheVariants.{Commands, Question, Settling, Unpacking}
+use Rattle.uu_request.specs.declared.request.Request.TheVariants.{Commands, Question, Mailing, Settling, Unpacking}
 use Rattle.uuspool.specs.Answers.{IsAnswer}
 use Rattle.uuspool.specs.Bundles.{IsSettleOutput, numbers_told, release_of, settled_by}
 use Rattle.uuspool.specs.Lines.{IsAnswerTo}
+use Rattle.uuspool.specs.Mail.{IsWay, mail_by}
 use Rattle.uuspool.specs.declared.fault.Fault.{Fault}
 use Rattle.uuspool.specs.declared.fault.Fault.TheVariants as fault
 
@@ -58,42 +61,49 @@ pub record WordsAsk (settings : Settings) (words : List (List ℕ)) (now : ℕ) 
 
 -- ---- from a request to its output
 
--- The commands of a request in a state. A question has none. Settling a bundle removes the jobs
--- that are settled then. Taking a bundle is the commands of the bundle.
-abbrev pub commands_of : Settings → State → Request → List Command
-commands_of settings s (Commands list) = list.commands
-commands_of settings s (Question question) = []
-commands_of settings s (Settling it) = release_of it.system (settled_by settings.name it s)
-commands_of settings s (Unpacking it) = commands_in it.bundle
+-- The commands of a request in a state. A question has none. Mail is queued by the way that it has
+-- then. Settling a bundle removes the jobs that are settled then. Taking a bundle is the commands of
+-- the bundle.
+abbrev pub AreCommandsIn : Settings → State → Request → List Command → Type 0
+AreCommandsIn settings s (Commands list) commands = commands ≡ list.commands
+AreCommandsIn settings s (Question question) commands = commands ≡ []
+AreCommandsIn settings s (Mailing mail) commands = (way : List (List ℕ)) × IsWay settings.name s mail way × (commands ≡ Queue (mail_by way mail) ∷ [])
+AreCommandsIn settings s (Settling it) commands = commands ≡ release_of it.system (settled_by settings.name it s)
+AreCommandsIn settings s (Unpacking it) commands = commands ≡ commands_in it.bundle
 
 -- How many of its commands are carried out as one, whole or not at all: all those of a bundle that
 -- is taken, and one of any other request. If a stop comes, so many may be in hand.
 abbrev pub in_hand : Request → ℕ
 in_hand (Commands list) = 1
 in_hand (Question question) = 1
+in_hand (Mailing mail) = 1
 in_hand (Settling it) = 1
 in_hand (Unpacking it) = length it.bundle.jobs + 1
 
--- What is known about a request's commands in any state: settling a bundle removes jobs that the
--- bundle has by one command, or has no command.
+-- What is known about a request's commands in any state: mail is queued by some way, and settling a
+-- bundle removes jobs that the bundle has, each by one command or none.
 abbrev pub AreCommandsOf : Request → List Command → Type 0
 AreCommandsOf (Commands list) commands = commands ≡ list.commands
 AreCommandsOf (Question question) commands = commands ≡ []
+AreCommandsOf (Mailing mail) commands = (commands ≡ []) ⊎ ((way : List (List ℕ)) × (commands ≡ Queue (mail_by way mail) ∷ []))
 AreCommandsOf (Settling it) commands = (numbers : List ℕ) × (commands ≡ release_of it.system numbers) × All (Contains (numbers_told it.has)) numbers
 AreCommandsOf (Unpacking it) commands = commands ≡ commands_in it.bundle
 
 -- They are those in this state. If the request ended with a fault, there may be none, because it
 -- may have come before them.
-abbrev pub AreChosen : List Command → List Command → Result ℕ Fault → Type 0
-AreChosen commands chosen (Ok status) = commands ≡ chosen
-AreChosen commands chosen (Err why) = (commands ≡ chosen) ⊎ (commands ≡ [])
+abbrev pub AreChosen : List Command → (List Command → Type 0) → Result ℕ Fault → Type 0
+AreChosen commands Are (Ok status) = Are commands
+AreChosen commands Are (Err why) = Are commands ⊎ (commands ≡ [])
 
--- The output and the status of a request in a state: for commands, and for a bundle that is taken,
--- those of the machine's replies; for settling a bundle, its report.
+-- The output and the status of a request in a state: for commands, for mail, and for a bundle that
+-- is taken, those of the machine's replies; for settling a bundle, its report.
 abbrev pub IsOutput : Settings → State → Request → List ℕ → ℕ → Type 0
 IsOutput settings s (Commands list) output status =
     (output ≡ output_text list.subjects list.skipped (replies_to s list.commands)) × (status ≡ replies_status (replies_to s list.commands))
 IsOutput settings s (Question question) output status = IsAnswer settings s question output status
+IsOutput settings s (Mailing mail) output status =
+    (commands : List Command) × AreCommandsIn settings s (Mailing mail) commands
+    × (output ≡ output_text (Line ∷ []) [] (replies_to s commands)) × (status ≡ replies_status (replies_to s commands))
 IsOutput settings s (Settling it) output status = IsSettleOutput settings.name it s output × (status ≡ 0)
 IsOutput settings s (Unpacking it) output status =
     (output ≡ output_text it.subjects it.skipped (replies_to s (commands_in it.bundle))) × (status ≡ replies_status (replies_to s (commands_in it.bundle)))
@@ -103,14 +113,16 @@ IsOutput settings s (Unpacking it) output status =
 abbrev pub answered_text : Request → List Reply → List ℕ
 answered_text (Commands list) replies = answers_text list.subjects replies
 answered_text (Question question) replies = []
+answered_text (Mailing mail) replies = answers_text (Line ∷ []) replies
 answered_text (Settling it) replies = []
 answered_text (Unpacking it) replies = []
 
--- the output and the status of commands, and of a bundle that is taken, are those of the replies;
--- the answer to a question isn't a reply, nor is the report of settling a bundle
+-- the output and the status of commands, of mail, and of a bundle that is taken, are those of the
+-- replies; the answer to a question isn't a reply, nor is the report of settling a bundle
 abbrev pub IsOfReplies : Request → List Reply → List ℕ → ℕ → Type 0
 IsOfReplies (Commands list) replies output status = (output ≡ output_text list.subjects list.skipped replies) × (status ≡ replies_status replies)
 IsOfReplies (Question question) replies output status = ⊤
+IsOfReplies (Mailing mail) replies output status = (output ≡ output_text (Line ∷ []) [] replies) × (status ≡ replies_status replies)
 IsOfReplies (Settling it) replies output status = ⊤
 IsOfReplies (Unpacking it) replies output status = (output ≡ output_text it.subjects it.skipped replies) × (status ≡ replies_status replies)
 
@@ -177,11 +189,12 @@ IsNoted old new stopped =
     HasCleanDisk (spool.disk new) → (s : State) → spool.Shows old s → (kind : StoreKind) → stopped ≡ Some (store.Store kind) → spool.has_failed new ≡ true
 
 -- Nothing stopped the commands exactly if each was answered, by a spool that hadn't failed. A
--- question has no reply. When a bundle is settled, a question before the command may be stopped,
--- too.
+-- question has no reply. When mail is queued or a bundle is settled, a question before the command
+-- may be stopped, too.
 abbrev pub IsEvery : Bool → Request → List Command → List Reply → Option StoreFault → Type 0
 IsEvery failed (Commands list) commands replies stopped = (stopped ≡ None) ↔ ((failed ≡ false) × (length replies ≡ length commands))
 IsEvery failed (Question question) commands replies stopped = replies ≡ []
+IsEvery failed (Mailing mail) commands replies stopped = stopped ≡ None → length replies ≡ length commands
 IsEvery failed (Settling it) commands replies stopped = stopped ≡ None → length replies ≡ length commands
 IsEvery failed (Unpacking it) commands replies stopped = (stopped ≡ None) ↔ ((failed ≡ false) × (length replies ≡ length commands))
 
@@ -197,7 +210,7 @@ pub record IsServed {S : Type 0} {g : Ghosts S} (settings : Settings) (request :
   pub replies : List Reply
   pub stopped : Option StoreFault
   pub are : AreCommandsOf request commands
-  pub chosen : HasCleanDisk (spool.disk new) → (s : State) → spool.Shows old s → AreChosen commands (commands_of settings s request) result
+  pub chosen : HasCleanDisk (spool.disk new) → (s : State) → spool.Shows old s → AreChosen commands (AreCommandsIn settings s request) result
   pub ran : Ran (in_hand request) commands old new replies stopped
   pub every : IsEvery (spool.has_failed old) request commands replies stopped
   pub printed : stopped ≡ None → IsPrinted (λ output status.

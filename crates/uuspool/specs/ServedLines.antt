@@ -16,7 +16,7 @@ use Rattle.uu_store.specs.declared.spool.Spool.{Spool}
 use Rattle.uu_frame.specs.Writing.{IsCut}
 use Rattle.uu_settings.specs.declared.settings.Settings.{Settings}
 use Rattle.uu_request.specs.declared.request.Request.{Request}
-use Rattle.uuspool.specs.Served.{AreChosen, AreCommandsOf, WordsAsk, EndsAs, IsOutput, IsServed, IsFaultOf, answered_text, commands_of, in_hand}
+use Rattle.uuspool.specs.Served.{AreChosen, AreCommandsIn, AreCommandsOf, WordsAsk, EndsAs, IsOutput, IsServed, IsFaultOf, answered_text, in_hand}
 use Rattle.uuspool.specs.declared.fault.Fault.{Fault}
 use Rattle.uuspool.specs.declared.fault.Fault.TheVariants as fault
 
@@ -118,7 +118,7 @@ pub record IsToldAs (settings : Settings) (s : State) (replies : List Reply) (li
   pub good : IsWellFormed s
   pub asks : WordsAsk settings line.words line.now line.input (Ok it.request)
   pub are : AreCommandsOf it.request it.commands
-  pub chosen : AreChosen it.commands (commands_of settings s it.request) line.result
+  pub chosen : AreChosen it.commands (AreCommandsIn settings s it.request) line.result
   pub every : goes_on line.result ≡ true → length it.commands ≤ length replies
   pub told : IsTold settings s it.request replies line.output line.result
   pub answers : OnErr line.result (replies ≡ replies_to s (take (length replies) it.commands))

@@ -7,6 +7,7 @@ ghost use Rattle.uu_times.specs.declared.moment.Moment.{Moment};
 ghost use Rattle.uu_bundle.specs.Bundles.{IsBundle, bundle_text};
 ghost use Rattle.uu_bundle.specs.declared.bundle.Bundle.{Bundle};
 ghost use Rattle.uu_handover.specs.Bundles.{IsAnswerBundle as IsTrueAnswer, IsSaid, Packed, key_for};
+ghost use Rattle.uu_core.specs.declared.command.Command.{Command};
 ghost use Rattle.uu_core.specs.declared.command.Command.TheVariants.{QueueOnce};
 ghost use Rattle.uu_core.specs.declared.job.NewJob.{NewJob};
 ghost use Rattle.uu_core.specs.declared.due.Due.{Due};
@@ -29,7 +30,7 @@ ghost use Rattle.uu_store.specs.Runs.{Ran};
 ghost use Rattle.uu_store.specs.declared.spool.Spool.{Spool};
 ghost use Rattle.uuspool.specs.Answers.{IsAnswer};
 ghost use Rattle.uuspool.specs.Bundles.{is_had};
-ghost use Rattle.uuspool.specs.Served.{commands_of};
+ghost use Rattle.uuspool.specs.Served.{AreCommandsIn};
 ghost use Rattle.uuspool.specs.ServedLines.{AreServed, IsOneRun, ServedLine};
 
 use sqlite::Alter;
@@ -103,6 +104,6 @@ pub fn what_is_answered_may_be_said()
 /// If a bundle is settled, exactly those jobs are removed that wait for the system and that the
 /// bundle has under their numbers and marks. Nothing else changes.
 pub fn what_is_had_goes()
-    ensures { (settings : Settings) (state : State) (it : Settling) → IsWellFormed state
-        → state_after state (commands_of settings state (request.Settling it)) ≡ record state { jobs = filter (λ job. not (is_had settings.name it job)) state.jobs } }
+    ensures { (settings : Settings) (state : State) (it : Settling) (commands : List Command) → IsWellFormed state
+        → AreCommandsIn settings state (request.Settling it) commands → state_after state commands ≡ record state { jobs = filter (λ job. not (is_had settings.name it job)) state.jobs } }
 {}

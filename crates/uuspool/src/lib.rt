@@ -13,6 +13,7 @@ mod fault;
 mod input;
 pub mod laws;
 mod line;
+mod mailing;
 mod moment;
 mod print;
 mod report;

@@ -1,6 +1,6 @@
 //! The questions about the map.
 
-ghost use Rattle.std.specs.Prelude.{◌≡◌, ◌≢◌, [], false, Bool, IfOk, IfErr, IsTrue, MatchResult, Contains, Err, List, Option, ℕ, find, map, option_copied, filter};
+ghost use Rattle.std.specs.Prelude.{◌≡◌, ◌≢◌, [], false, Bool, IfOk, IfErr, IsTrue, MatchResult, Contains, Err, List, Option, ℕ, find, map, option_copied, filter, ⊤};
 ghost use Rattle.std.specs.List.{AllZip};
 ghost use Rattle.std.specs.Io.KnownBytes.{Appends};
 ghost use Rattle.sqlite.specs.State.{HasCleanDisk};
@@ -13,6 +13,7 @@ ghost use Rattle.uu_request.specs.declared.request.Request.TheVariants as reques
 ghost use Rattle.uu_store.specs.Runs.{Ran, fault_in};
 ghost use Rattle.uu_store.specs.Spool.{IsFaultBetween, Shows, disk, has_failed};
 ghost use Rattle.uuspool.specs.Answers.{IsEntryShown, entry_for, is_of};
+ghost use Rattle.uuspool.specs.Internal.Asked.{IsAsked};
 ghost use Rattle.uuspool.specs.Routes.{AreRoutesShown, IsRouteShown, IsRouted, IsRoutingShown, leads_to};
 ghost use Rattle.uuspool.specs.Served.{IsServed};
 
@@ -114,8 +115,8 @@ pub(crate) fn routes<S: Alter, W: Write>(
     }
 }
 
-// The systems and the texts of the map entries, both of one state.
-fn systems_and_entries<S: Alter>(
+/// The systems and the texts of the map entries, both of one state.
+pub(crate) fn systems_and_entries<S: Alter>(
     alloc: Global,
     spool: &mut Spool<S>,
 ) -> Result<(Vec<SystemRow>, Vec<Listed<u8>>), StoreFault>
@@ -124,6 +125,7 @@ fn systems_and_entries<S: Alter>(
         → IfOk result (λ answer. (answer.0.items ≡ s.systems) × (answer.1.items ≡ map (λ entry. entry.bytes) s.entries) × Shows spool.new s) }
     ensures ran { Ran 1 [] spool.old spool.new [] (fault_in result) }
     ensures failed { IsTrue (has_failed spool.old) → spool.new ≡ spool.old }
+    ensures asked { IsAsked (λ s. ⊤) (λ s answer. (answer.0.items ≡ s.systems) × (answer.1.items ≡ map (λ entry. entry.bytes) s.entries)) spool.old spool.new result }
 {
     runs_are_one_run::<S>();
     let systems = spool.systems(alloc)?;
@@ -152,8 +154,8 @@ fn routes_text(
     }
 }
 
-// The entries of these texts.
-fn read_entries(alloc: Global, texts: &[Listed<u8>]) -> Result<Vec<Entry>, MapFault>
+/// The entries of these texts.
+pub(crate) fn read_entries(alloc: Global, texts: &[Listed<u8>]) -> Result<Vec<Entry>, MapFault>
     ensures entries { IfOk result (λ entries. AllZip IsEntry texts.now entries.items) }
     ensures fault { IfErr result (λ fault. fault ≢ Memory → (text : List ℕ) × Contains texts.now text × (host_of text ≡ Err fault)) }
 {
@@ -165,8 +167,8 @@ fn read_entries(alloc: Global, texts: &[Listed<u8>]) -> Result<Vec<Entry>, MapFa
     Ok(entries)
 }
 
-// The names of these systems.
-fn names_of(alloc: Global, systems: &[SystemRow]) -> Result<Vec<SiteName>, AllocError>
+/// The names of these systems.
+pub(crate) fn names_of(alloc: Global, systems: &[SystemRow]) -> Result<Vec<SiteName>, AllocError>
     ensures { IfOk result (λ names. names.items ≡ map (λ row. row.def.name) systems.now) }
 {
     let mut names = Vec::new(alloc);
@@ -199,8 +201,8 @@ fn shown(
     }
 }
 
-// The routes to a host. There is at most one.
-fn routes_to(mut routes: Vec<SiteRoute>, host: &SiteName) -> Vec<SiteRoute>
+/// The routes to a host. There is at most one.
+pub(crate) fn routes_to(mut routes: Vec<SiteRoute>, host: &SiteName) -> Vec<SiteRoute>
     ensures { result.items ≡ filter (leads_to host.now) routes.items }
 {
     routes.retain(|route| route.host == *host);

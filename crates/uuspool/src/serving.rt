@@ -14,6 +14,7 @@ ghost use Rattle.uuspool.specs.ServedLines.{Serves};
 use crate::answer::ask;
 use crate::fault::Fault;
 use crate::line::line_of;
+use crate::mailing::mail;
 use crate::moment::moment_of;
 use crate::print::print;
 use crate::settling::settle;
@@ -154,6 +155,7 @@ fn serve_request<S: Alter, W: Write>(
     match request {
         Request::Commands(list) => run(alloc, list, settings, spool, out),
         Request::Question(question) => ask(alloc, &question, settings, spool, out),
+        Request::Mailing(job) => mail(alloc, job, settings, spool, out),
         Request::Settling(settling) => settle(alloc, &settling, settings, spool, out),
         Request::Unpacking(unpacking) => unpack(alloc, unpacking, settings, spool, out),
     }
@@ -204,9 +206,9 @@ fn unpack<S: Alter, W: Write>(
     }
 }
 
-// Prints the output of a run, or, if it was broken off, that of the commands that were answered. If
-// there is no output, no fault of memory or of the output hides the store's.
-fn print_end<W: Write>(
+/// Prints the output of a run, or, if it was broken off, that of the commands that were answered. If
+/// there is no output, no fault of memory or of the output hides the store's.
+pub(crate) fn print_end<W: Write>(
     alloc: Global,
     subjects: &[Subject],
     skipped: &[u32],

@@ -16,6 +16,12 @@ returns-in-Question g c =
     (λ output. Appends (g.W.Write.contents c.args.out.now) (g.W.Write.contents c.ask.new.out) output) c.ask.result)
     (sym c.in-Question.is) c.ask.ensures
 
+pub returns-in-Mailing : goal.returns-in-Mailing
+returns-in-Mailing g c =
+    subst (λ (request : Request). IsServed c.args.settings.now request c.args.spool.now c.mail.new.spool
+    (λ output. Appends (g.W.Write.contents c.args.out.now) (g.W.Write.contents c.mail.new.out) output) c.mail.result)
+    (sym c.in-Mailing.is) c.mail.ensures
+
 pub returns-in-Settling : goal.returns-in-Settling
 returns-in-Settling g c =
     subst (λ (request : Request). IsServed c.args.settings.now request c.args.spool.now c.settle.new.spool
