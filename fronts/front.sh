@@ -18,15 +18,27 @@ if [ -z "${UUSPOOL_DIR-}" ] && [ -d "$common" ] && ! [ -O "$common" ] && ! [ -O 
     member=yes spool="sudo -n -u $(stat -c %U "$common") -- $lib/for-user"
 fi
 
-# If not all pieces of a file are queued, those that are go. If a shell can't go on, for example because it can't
-# fork, it ends with a status of its own.
-queued='' stopped=''
+# If not all pieces of a file are queued, none of them stays. Each names $its_pieces. If a shell can't go on, for
+# example because it can't fork, it ends with a status of its own.
+its_pieces='' stopped=''
 end() {
     status=$?
-    for number in $queued; do $spool --as="$user" kill "$number" >/dev/null 2>&1; done
+    trap '' HUP INT TERM
+    [ -z "$its_pieces" ] || remove_pieces || plainly "$front: some pieces of $its_name may wait for $system: uustat -k removes them" >&2
     case $status in 0 | "$usage" | "$refused" | "$later") ;; *) exit "$later" ;; esac
 }
 trap end EXIT
+
+# What queued a piece may have been killed before it said the number, so the list is searched. (If the program refuses
+# these words, it took no piece.)
+remove_pieces() {
+    said=$($spool list -s"$system" 2>/dev/null) || return $(($? > 2))
+    left=0
+    for number in $(printf '%s\n' "$said" | awk -v file="$its_pieces" '$8 == "exec" && $9 == "uuspool-piece" && $10 == file { print $1 }'); do
+        $spool --as="$user" kill "$number" >/dev/null 2>&1 || left=1
+    done
+    return "$left"
+}
 
 fail() {
     plainly "$front: $2" >&2
@@ -76,8 +88,9 @@ unknown() { fail "$usage" "no option $1: see $front --help"; }
 # Asks the spool. $said is what the program printed. If the request fails, it prints the error and ends with a
 # status of sysexits. The program's status 2 means faulty words or faulty settings. Faulty settings are the
 # site's fault, so a message waits until they are corrected. They fail a question with right words, too.
+# A key of the terminal ends nothing that queues a piece.
 ask() {
-    said=$($spool "$@" 2>&1) && return
+    said=$([ -z "$its_pieces" ] || trap '' HUP INT TERM; $spool "$@" 2>&1) && return
     case $? in
     1) status=$refused ;;
     2) if $spool name >/dev/null 2>&1; then status=$usage; else status=$later; fi ;;
@@ -167,14 +180,14 @@ look_at_pieces() {
 queue_pieces() {
     trap 'stopped=yes' HUP INT TERM
     sum=$(sha256sum <"$input") && read -r mark </proc/sys/kernel/random/uuid || fail "$later" "$its_name: cannot read"
-    file=${sum%% *}.$size.$piece.$mark at=0
+    its_pieces=${sum%% *}.$size.$piece.$mark at=0 first=''
     while [ "$at" -eq 0 ] || [ "$at" -lt "$size" ]; do
         read_piece
-        queue exec uuspool-piece "$file" "$at" "$@" <&4
-        queued="$queued $number" at=$((at + piece))
+        queue exec uuspool-piece "$its_pieces" "$at" "$@" <&4
+        first=${first:-$number} at=$((at + piece))
         [ -z "$stopped" ] || exit "$later"
     done
-    number=${queued# } number=${number%% *} queued=''
+    number=$first its_pieces=''
     trap - HUP INT TERM
 }
 

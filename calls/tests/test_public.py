@@ -1,5 +1,6 @@
 """The public folder, while somebody puts links there, and where mail may go."""
 import os
+from functools import partial
 
 from uuspool_calls import envelope, forward, public
 from uuspool_calls.errors import Delay, Refusal
@@ -68,6 +69,48 @@ class Public(Folder):
     def test_no_folder(self) -> None:
         self.public = public.Public(f"{self.folder}/nowhere", "mysite")
         with self.assertRaisesRegex(Delay, "there is no public folder"):
+            self.put_file("~/x")
+
+    def test_nobody_else_may_lead_to_another_folder(self) -> None:
+        secret = self.put("secret/file", "kept").removesuffix("/file")
+        home, link = self.put("home/x").removesuffix("/x"), f"{self.folder}/link"
+        os.symlink("home", link)
+        for place, is_kept in ((f"{home}/in", True), (f"{link}/in", True), (f"{link}/../home/./in/", True)):
+            self.public = public.Public(place, "mysite")
+            os.makedirs(f"{home}/in", exist_ok=True)
+            self.assertEqual("~/x", self.put_file("~/x", b"new"))
+            os.remove(f"{home}/in/x")
+        self.public = public.Public(f"{home}/in", "mysite")
+        os.rmdir(f"{home}/in")
+        os.symlink(secret, f"{home}/in")
+        self.assertEqual(b"kept", self.asked("~/file"))  # (this user's own link)
+        os.chmod(home, 0o1777)
+        self.assertEqual(b"kept", self.asked("~/file"))
+        for mode in 0o777, 0o775, 0o757:
+            os.chmod(home, mode)
+            for way in partial(self.put_file, "~/file", b"new"), partial(self.asked, "~/file"):
+                with self.assertRaisesRegex(Delay, f"others may write {home}, and so put something else in the place of {home}/in"):
+                    way()
+        os.chmod(home, 0o755)
+        os.symlink("loop", f"{self.folder}/loop")
+        for name in "loop", "secret/file", "nowhere":
+            self.public = public.Public(f"{self.folder}/{name}", "mysite")
+            with self.assertRaisesRegex(Delay, "there is no public folder"):
+                self.put_file("~/x")
+        self.assertEqual(b"kept", self.bytes_of("secret/file"))
+
+    def test_whose_the_folders_on_the_way_are(self) -> None:
+        home, place = self.put("home/x").removesuffix("/x"), f"{self.folder}/home/in"
+        os.mkdir(place)
+        self.give(place)
+        self.public = public.Public(place, "mysite")
+        self.assertEqual("~/x", self.put_file("~/x"))  # (nobody else may write home)
+        os.chmod(home, 0o1777)
+        with self.assertRaisesRegex(Delay, f"others may write {home}"):
+            self.put_file("~/x")
+        os.chmod(home, 0o755)
+        self.give(home)
+        with self.assertRaisesRegex(Delay, f"others may write {home}"):
             self.put_file("~/x")
 
     def asked(self, path: str) -> bytes:
@@ -195,11 +238,13 @@ class Envelopes(Folder):
 
     def test_the_first_line_says_from_which_neighbour(self) -> None:
         honest = b"From ann Sat Nov 28 12:00:00 2026 remote from duke\n>From joe x remote from unc\n\nhello"
-        self.assertEqual(honest, self.signed(honest))
+        for line in honest, b"From ann remote from duke\n":
+            self.assertEqual(line, self.signed(line))
         for text, rest in (
             (b"From president x remote from unc\nhello", b">From president x remote from unc\nhello"),
             (b"From president remote from unc remote from duke\nhello", b">From president remote from unc remote from duke\nhello"),
             (b">From x remote from unc\n", b">From x remote from unc\n"), (b"hello", b"hello"), (b"", b""), (b"From x remote from aduke", b">From x remote from aduke"),
+            *((line, b">" + line) for line in (b"From remote from duke\n>From president x", b"From  remote from duke\nx", b"From a x\0 remote from duke\nx", b"From a\tremote from duke\nx")),
         ):  # fmt: skip
             first, _, after = self.signed(text).partition(b"\n")
             self.assertRegex(first, rb"^From ann [A-Z][a-z]{2} [A-Z][a-z]{2} [ \d]\d \d\d:\d\d:\d\d \d{4} remote from duke$")

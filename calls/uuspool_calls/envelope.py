@@ -30,9 +30,11 @@ def signed(job: Delivered, folder: str) -> Iterator[int]:
 
 
 def _is_signed(first: bytes, neighbour: str) -> bool:
-    """Whether a line says that the mail came from the neighbour. (Of two systems rmail takes the first.)"""
-    is_one = first.count(b"remote from ") == 1
-    return is_one and first.startswith(b"From ") and first.endswith(f" remote from {neighbour}".encode())
+    """Whether a line says that the mail came from a user of the neighbour. (Of two systems rmail takes the first. It takes
+    the first word for the user, and a zero for the end.)"""
+    user, blank, rest = first.removeprefix(b"From ").partition(b" ")
+    names_one = first.count(b"remote from ") == 1 and (blank + rest).endswith(f" remote from {neighbour}".encode())
+    return first.startswith(b"From ") and user != b"" and names_one and min(first) >= 32
 
 
 def _line(job: Delivered) -> bytes:

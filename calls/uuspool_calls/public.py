@@ -2,8 +2,9 @@
 
 A neighbour has a folder of its own there, unless a table names another one. Names come from strangers, and who
 may write a folder may put links there meanwhile. So each folder on the way is opened by its name alone in the one
-above it, without following a link, and what a path says counts only for what was opened. A new file gets its name
-when it is whole, and takes that of no file of another owner or sender: a number is added."""
+above it, without following a link, and what a path says counts only for what was opened. Links lead to the folder
+itself, but none that somebody besides root and this user could put there. A new file gets its name when it is whole,
+and takes that of no file of another owner or sender: a number is added."""
 import contextlib
 import errno
 import os
@@ -15,6 +16,8 @@ from .errors import Delay, Refusal
 from .files import closing, copy_all, look, opened, read_bytes
 
 _OPEN_FOLDER = os.O_RDONLY | os.O_DIRECTORY | os.O_NOFOLLOW | os.O_CLOEXEC
+_PASS_FOLDER = os.O_PATH | os.O_DIRECTORY | os.O_NOFOLLOW | os.O_CLOEXEC
+_MOST_LINKS = 40
 _OPEN_FILE = os.O_RDONLY | os.O_NONBLOCK | os.O_NOCTTY | os.O_CLOEXEC
 _MAKE_FILE = os.O_WRONLY | os.O_CREAT | os.O_EXCL | os.O_NOFOLLOW | os.O_CLOEXEC
 _MAKE_NAMELESS = os.O_WRONLY | os.O_TMPFILE | os.O_CLOEXEC
@@ -30,21 +33,58 @@ _BLOCK = 1 << 20
 def find(environment_folder: str, table: str, neighbour: str, own: str) -> "Public":
     """The public folder as a neighbour has it, or this site itself, if there is none: that of its last line in a
     table, or else one of its name in the common folder. Jobs of this site go to the common folder."""
-    common, folders = _plain(environment_folder or _COMMON), {}
-    for line in (read_bytes(table) or b"").decode(errors="surrogateescape").split("\n"):
-        words = line.split(maxsplit=1)
-        if len(words) == 2:
-            folders[words[0]] = _plain(words[1].rstrip())
-    others = [folder for name, folder in folders.items() if name not in (neighbour, own)]
+    common, folders = environment_folder or _COMMON, read(table)
+    others = [_plain(folder) for name, folder in folders.items() if name not in (neighbour, own)]
     folder = folders.get(neighbour or own)
     if folder is None:
         return Public(common, own, neighbour, others=others)
-    return Public(folder, own, is_alone=[*folders.values(), common].count(folder) == 1, others=others)
+    all_of_them = map(_plain, (*folders.values(), common))
+    return Public(folder, own, is_alone=[*all_of_them].count(_plain(folder)) == 1, others=others)
+
+
+def read(table: str) -> dict[str, str]:
+    """The folders that a table names, of each neighbour that of its last line."""
+    lines = (read_bytes(table) or b"").decode(errors="surrogateescape").split("\n")
+    rows = [line.split(maxsplit=1) for line in lines]
+    return {words[0]: words[1].rstrip() for words in rows if len(words) == 2}
 
 
 def _plain(folder: str) -> str:
     """The one name of a folder, however a table writes it."""
     return os.path.realpath(folder) if folder.startswith("/") else folder
+
+
+@contextlib.contextmanager
+def found(path: str, owner: int) -> Iterator[int]:
+    """The folder of a path, opened so that others can be opened in it. Delay if somebody besides root and the owner may
+    put something else in its place: the next file would come there, and one from there would be sent."""
+    with closing(os.open("/", _PASS_FOLDER)) as root:
+        at, links, names = os.dup(root), 0, path.split("/")[::-1]
+        try:
+            while names:
+                name = names.pop()
+                if name in ("", "."):
+                    continue
+                seen = look(name, at, follows=False)
+                if not _is_fixed(os.fstat(at), seen, (0, owner)):
+                    raise Delay(f"others may write {_place_of(at)}, and so put something else in the place of {path}")
+                before = at
+                if seen and stat.S_ISLNK(seen.st_mode) and (links := links + 1) <= _MOST_LINKS:
+                    target = os.readlink(name, dir_fd=at)
+                    names += target.split("/")[::-1]
+                    at = os.dup(root if target.startswith("/") else at)
+                else:
+                    at = os.open(name, _PASS_FOLDER, dir_fd=at)
+                os.close(before)
+            yield at
+        finally:
+            os.close(at)
+
+
+def _is_fixed(folder: os.stat_result, its: os.stat_result | None, owners: tuple[int, int]) -> bool:
+    """Whether nobody but these users may put something else in the place of what is in a folder."""
+    is_kept = its is not None and its.st_uid in owners and folder.st_mode & stat.S_ISVTX != 0
+    return folder.st_uid in owners and (is_kept or not folder.st_mode & 0o022)
 
 
 def _is_name(name: str) -> bool:
@@ -100,13 +140,16 @@ class Public:
 
     @contextlib.contextmanager
     def _top(self) -> Iterator[int]:
-        """The folder itself, to which a link may lead."""
-        try:
-            top = opened(self._folder, os.O_RDONLY | os.O_DIRECTORY)
-        except (FileNotFoundError, NotADirectoryError):
-            raise Delay(f"there is no public folder {self._folder} at {self._own}") from None
-        with top as handle:
-            yield handle
+        """The folder itself."""
+        with contextlib.ExitStack() as held:
+            try:
+                place = held.enter_context(found(self._folder, os.geteuid()))
+                top = held.enter_context(opened(".", _OPEN_FOLDER, folder=place))
+            except (FileNotFoundError, NotADirectoryError):
+                raise Delay(f"there is no public folder {self._folder} at {self._own}") from None
+            except OSError as error:
+                raise Delay(f"the public folder {self._folder} at {self._own} cannot be opened: {error.strerror}") from None
+            yield top
 
     @contextlib.contextmanager
     def _place(self) -> Iterator[int]:
