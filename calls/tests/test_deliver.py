@@ -81,7 +81,9 @@ class Records(Folder):
     def test_times(self) -> None:
         tries = records.Tries(LINE, 1, 1600, 1000)
         self.assertEqual([True, False, False], [tries.is_later(now) for now in (1500, 1600, -86400)])
-        self.assertEqual([False, True], [tries.is_old(1000 + 5 * 86400 + it) for it in (0, 1)])
+        later = 1000 + 5 * 86400
+        self.assertEqual([False, True], [tries._replace(failed=20).is_old(later + it) for it in (0, 1)])
+        self.assertFalse(tries._replace(failed=19).is_old(later * 10))  # (a clock that jumped)
 
     def test_damaged_records(self) -> None:
         for text in "", "x", "{", '{"failed": 1}', "[1]", "\xff", json.dumps({"job": LINE, "failed": "x", "next": 0, "first": 0, "why": ""}):
@@ -142,6 +144,23 @@ class Clean(Folder):
             self.assertTrue(lock.is_current())
         deliver._clean(here, [])
         self.assertEqual([], os.listdir(f"{self.folder}/deliver"))
+
+
+class Jumps(Folder):
+    def test_one_round_with_a_wrong_clock_removes_nothing(self) -> None:
+        here, now, names = site(self.folder, StandIn()), time.time(), ["1", "2"]
+        for name in names:
+            self.put(f"refused/{name}", b"no\n" + LINE.encode() + b"\nhello")
+        self.put("refused/.looked")
+        for years, left in (10, names), (0, names), (10, names):
+            with mock.patch("time.time", return_value=now + years * 365 * 86400):
+                deliver._clean(here, [])
+            os.utime(f"{self.folder}/refused/.looked", (now + years * 365 * 86400,) * 2)
+            self.assertEqual(left, sorted(it for it in os.listdir(f"{self.folder}/refused") if it[0] != "."))
+        os.utime(f"{self.folder}/refused/1", (1, 1))
+        os.utime(f"{self.folder}/refused/.looked", (now - 7200,) * 2)
+        deliver._clean(here, [])
+        self.assertEqual(["2"], sorted(it for it in os.listdir(f"{self.folder}/refused") if it[0] != "."))
 
 
 class Works(Folder):

@@ -1,15 +1,18 @@
 """What becomes of a bundle, of refused jobs and of moves, with a spool of tables."""
+import contextlib
 import json
 import os
 import signal
+import time
+from unittest import mock
 
 from uuspool_calls import moves
 from uuspool_calls.errors import Failure, SpoolError
-from uuspool_calls.exchange import Neighbour, NotTaken, expect_size
+from uuspool_calls.exchange import Neighbour, NoBundle, NotTaken, expect_size
 from uuspool_calls.jobs import Job
 from uuspool_calls.letters import Letter, Mailroom, NotSent, at_home
 from uuspool_calls.processes import Ended
-from uuspool_calls.refusals import Kept, Refuser, forget_old, forget_warnings, has_untold, tell, warn
+from uuspool_calls.refusals import Kept, Refuser, forget_old, forget_warnings, has_untold, is_time_to_look, tell, warn
 from uuspool_calls.spool import Refused, Settled, Unpacked
 
 from .standins import LINE, Folder, Mailer, StandIn, parcel, site
@@ -72,8 +75,17 @@ class Taking(Folder):
                 self.assertEqual(b"ours", self.neighbour.answer(JOB))
         self.spool.waiting = lambda system="": [parcel(LINE.replace("ann", "duke!ann")).job] * 2
         self.neighbour.take(JOB)
-        with self.assertRaisesRegex(NotTaken, "2 jobs of duke wait at mysite, so it takes more later"):
+        with self.assertRaisesRegex(NotTaken, "2 jobs of duke wait at mysite, with letters for it, so it takes more later"):
             self.neighbour.take(JOB)
+
+    def test_letters_for_the_neighbour_count(self) -> None:
+        self.site.session.environment["UUSPOOL_MOST_WAITING"] = "2"
+        for system, user, is_full in ("unc", "MAILER-DAEMON", False), ("duke", "ann", False), ("duke", "MAILER-DAEMON", True):
+            self.put("calls/duke.waits")
+            job = parcel(f"9 {system} {user} N 2026-11-28 10:00:00 5 exec rmail joe").job
+            self.spool.waiting = lambda system="", job=job: [job] * 2  # type: ignore[misc]
+            with self.assertRaises(NotTaken) if is_full else contextlib.nullcontext():
+                self.neighbour.take(JOB)
 
     def test_what_is_no_bundle(self) -> None:
         for said, why in (
@@ -83,9 +95,10 @@ class Taking(Folder):
             ("uuspool: spool: store", "uuspool: spool: store"),
         ):
             self.spool.fails["settle"] = SpoolError(2, said)
-            with self.assertRaisesRegex(NotTaken, why):
+            with self.assertRaisesRegex(NotTaken, why) as raised:
                 self.neighbour.take(b"Welcome\n\x1b\nhas ")
-        with self.assertRaisesRegex(NotTaken, "more than 4273224 bytes came from duke"):
+            self.assertEqual("bundle: " in said, isinstance(raised.exception, NoBundle))
+        with self.assertRaisesRegex(NoBundle, "more than 4273224 bytes came from duke"):
             expect_size("duke", bytes(4_273_225))
 
     def test_a_job_that_differs_gets_another_number(self) -> None:
@@ -217,10 +230,19 @@ class Refusing(Folder):
         forget_old(self.site)
         kept = sorted(it for it in os.listdir(f"{self.folder}/refused") if it[0] != ".")
         self.assertEqual(["2", "3", "4"], kept)
-        os.remove(f"{self.folder}/refused/.looked")
         self.site.session.environment["UUSPOOL_REFUSED_DAYS"] = "30"
         forget_old(self.site)
-        self.assertEqual([".lock", ".looked"], sorted(os.listdir(f"{self.folder}/refused")))
+        self.assertEqual([".lock"], os.listdir(f"{self.folder}/refused"))
+
+    def test_when_it_is_looked_how_old_things_are(self) -> None:
+        looked = []
+        for hours in 0, 0.5, 1.6, 10 * 8766, 10 * 8766 + 0.5, 10 * 8766 + 1.6, 3, 3.5, 4.1, 500, 1300:
+            with mock.patch("time.time", return_value=1.8e9 + hours * 3600):
+                looked.append(is_time_to_look(self.site))
+                moment = (time.time(),) * 2 if hours in (0, 1.6, 10 * 8766, 10 * 8766 + 1.6, 3, 4.1, 500, 1300) else None
+            if moment:  # (which the system takes of its own clock)
+                os.utime(f"{self.folder}/refused/.looked", moment)
+        self.assertEqual([False, False, True, False, False, True, False, False, True, True, False], looked)
 
     def test_a_file_is_refused_with_all_its_pieces_in_one_letter_without_bytes(self) -> None:
         lines = [LINE.replace("7", str(at), 1).replace(" 5 ", " 1000 ").replace("rmail joe", f"{FILE} {place} send /x ~/y") for at, place in ((7, 0), (8, 2000), (9, 1000))]

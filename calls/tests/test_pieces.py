@@ -315,9 +315,8 @@ class Refused(Arrivals):
         self.assertEqual(1, len([it for it in os.listdir(f"{self.folder}/refused") if it[0] != "."]))
         self.session.environment["UUSPOOL_REFUSED_DAYS"] = "0"
         os.utime(f"{self.folder}/refused/{[it for it in os.listdir(f'{self.folder}/refused') if it[0] != '.'][0]}", (0, 0))
-        os.remove(f"{self.folder}/refused/.looked")
         refusals.forget_old(self.site)
-        self.assertEqual([".looked"], os.listdir(f"{self.folder}/refused"))
+        self.assertEqual([], os.listdir(f"{self.folder}/refused"))
 
 
 class Letters(Refused):
@@ -365,6 +364,13 @@ class HandedOn(Refused):
             self.assertEqual(not hop, os.path.exists(f"{self.folder}/mail"))
             shutil.rmtree(f"{self.folder}/pieces")
 
+
+    def test_an_address_that_is_an_option_at_the_next_hop(self) -> None:
+        self.put("etc/forward", "a unc *\n")
+        self.spool.parcels[1] = parcel("1 mysite a!ann B 2026-11-28 10:00:00 5 exec rmail unc!joe unc!-oX")
+        self.assertEqual(0, self.deliverer.deliver(1))
+        self.assertRegex(self.log[0], "refused-for-good -oX, which is no user of unc, would be an option there")
+        self.assertEqual([], [it for it in self.spool.asked if it[0] == "exec"])
 
     def test_mail_that_is_queued_again_is_the_same_file(self) -> None:
         self.put("etc/forward", "a unc\n")

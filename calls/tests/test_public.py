@@ -219,6 +219,7 @@ class Forwarding(Folder):
         for address in (
             "joe@c.example", "phs!joe", "joe%c.example", "joe%c.example@mysite.example", "unc!joe@c.example", "@c.example:joe@b.example", "|id", "/etc/x",
             ":include:/x", "-x", '"joe@c.example"@mysite', "mysite!phs!joe", "", "joe@b.example@c.example", "unc!|id", "joe@[127.0.0.1]", "joe\n", "joe+${run{id}}@mysite",
+            "unc!-Dx!user", "unc!-oX", "unc!phs!-oX!user", "-unc!joe",
         ):  # fmt: skip
             self.assertFalse(self.is_taken(address), address)
         self.assertTrue(self.is_taken("joe@c.example", "hub"))

@@ -10,14 +10,14 @@ handed on. If the spool fails, nothing is answered, and the sender's jobs wait t
 
 Under Taylor's uuxqt, which sets $UU_MACHINE, the sender is that neighbour, and the words don't count. uux
 queues the answer for it, if the bundle has jobs. (An answer that only refuses jobs gets no answer that
-only refuses.)"""
+only refuses.) What never can be taken ends with status 69, so that uuxqt forgets it."""
 import contextlib
 import os
 from collections.abc import Sequence
 
 from . import bundle, carriers
-from .errors import LATER, USAGE, Failure
-from .exchange import Neighbour, NotTaken, Taken, expect_size, finish_moves
+from .errors import LATER, REFUSED, USAGE, Failure
+from .exchange import Neighbour, NoBundle, NotTaken, Taken, expect_size, finish_moves
 from .processes import Program
 from .session import Session
 from .site import Site, enter
@@ -49,10 +49,13 @@ def run(session: Session, words: Sequence[str]) -> int:
 
 def _answer(session: Session, site: Site, sender: str, onward: Sequence[str], machine: str) -> None:
     neighbour = Neighbour(site, sender, [*site.onward(sender), *onward], carriers.most_for(session, sender))
-    text = _read(session, sender)
+    never = REFUSED if machine else LATER  # (uuxqt would begin what ends with the latter again, for ever)
     try:
+        text = _read(session, sender)
         expect_size(sender, text)
         taken = neighbour.take(text, replies=True)
+    except NoBundle as why:
+        raise Failure(never, str(why)) from None
     except NotTaken as why:
         raise Failure(LATER, str(why)) from None
     if finish_moves(site, sender):
@@ -65,7 +68,7 @@ def _answer(session: Session, site: Site, sender: str, onward: Sequence[str], ma
     elif _needs_answer(taken):
         _queue(site, sender, ours)
     if fault := taken.own_fault or (taken.faults and taken.faults[-1]):
-        raise Failure(LATER, fault)
+        raise Failure(never, fault)
 
 
 def _read(session: Session, sender: str) -> bytes:
@@ -74,7 +77,7 @@ def _read(session: Session, sender: str) -> bytes:
     if text is None:
         raise Failure(LATER, f"the bundle of {sender} did not come within {session.call_limit} seconds, or nothing for {_IDLE}")
     if not text:
-        raise Failure(LATER, f"nothing came from {sender}")
+        raise NoBundle(f"nothing came from {sender}")
     return text
 
 

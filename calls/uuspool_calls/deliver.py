@@ -140,8 +140,9 @@ def _clean(site: Site, waiting: Sequence[Job]) -> None:
             with contextlib.suppress(OSError):
                 if os.stat(f"{folder}/{name}").st_mtime < before:
                     _forget(folder, number)
-    _refuse_unfinished(site)
-    refusals.forget_old(site)
+    if refusals.is_time_to_look(site):
+        _refuse_unfinished(site)
+        refusals.forget_old(site)
     if os.path.exists(f"{folder}/keys") and not refusals.has_untold(site):
         with contextlib.suppress(SpoolError):
             if jobs := site.spool.waiting():

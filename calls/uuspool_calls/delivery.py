@@ -5,7 +5,7 @@ from functools import partial
 
 from . import commands, envelope, forward, public, works
 from .errors import Delay, Refusal
-from .jobs import Delivered, Wishes
+from .jobs import MAIL, Delivered, Wishes
 from .pieces import COMMAND, File, Piece, Pieces, cannot_be_kept
 from .processes import Program
 from .session import Session
@@ -14,7 +14,6 @@ from .values import NamedTuple
 
 _MOST_SHOWN = 200  # bytes of what a command prints
 _KILLED = 137
-_MAIL = "rmail"
 
 
 class Outcome(NamedTuple):
@@ -130,7 +129,7 @@ class Delivery:
         path = f"{self._session.etc}/commands"
         command = commands.find(path, name, self._own)
         command.expect_allowed(self._own, job.sender, words, path)
-        if name == _MAIL:
+        if name == MAIL:
             if job.sender and not words:
                 raise Refusal(f"{name} names nobody, and {self._own} takes no recipients from the message")
             self._expect_forwarded(job.sender, words)
@@ -139,9 +138,11 @@ class Delivery:
     def _run(self, job: Delivered) -> None:
         name, *words = job.words
         command = self._command(job)
-        if self._hand_on and job.sender and name == _MAIL and (hop := forward.next_hop(f"{self._session.etc}/forward", job.sender, words)):
+        if self._hand_on and job.sender and name == MAIL and (hop := forward.next_hop(f"{self._session.etc}/forward", job.sender, words)):
+            rest = [word.removeprefix(f"{hop}!") for word in words]
+            if odd := next((word for word in rest if word.startswith("-")), None):
+                raise Refusal(f"{odd}, which is no user of {hop}, would be an option there")
             with _given(job, self._folder) as content:
-                rest = (word.removeprefix(f"{hop}!") for word in words)
                 self._hand_on(hop, job._replace(words=(name, *rest), content=content))
             return
         environment = {**self._environment, **job.environment()}
@@ -179,7 +180,7 @@ def _piece(job: Delivered) -> Piece:
 @contextlib.contextmanager
 def _given(job: Delivered, folder: str) -> Iterator[int]:
     """The open file that a command gets: the job's bytes, and before mail of a neighbour its envelope."""
-    if job.sender and job.words[0] == _MAIL:
+    if job.sender and job.words[0] == MAIL:
         with envelope.signed(job, folder) as content:
             yield content
     else:

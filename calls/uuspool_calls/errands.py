@@ -5,7 +5,7 @@ So a job with such a word is refused here. A word in parentheses is one word for
 import re
 
 from .errors import Refusal
-from .jobs import REQUEST, Job, Wishes
+from .jobs import MAIL, REQUEST, Job, Wishes
 from .texts import is_name
 from .pieces import COMMAND
 from .values import NamedTuple
@@ -56,6 +56,8 @@ def _execution(job: Job) -> Errand:
         raise Refusal(f"Taylor UUCP can't run a command of such a name: {command}")
     if odd := next((word for word in words if not _SHELL.isdisjoint(word) or not word), None):
         raise Refusal(f"Taylor UUCP would give this word to a shell at {job.system}: {odd}")
+    if command == MAIL and (odd := next((word for word in words if word.startswith("-")), None)):
+        raise Refusal(f"{command} at {job.system} would take this address for an option: {odd}")
     what = re.escape(" ".join(job.words))
     asker = [f"-a{job.user}"] if _USER.match(job.user) else []
     line = ("-r", "-j", "-z", "-p", f"-g{job.grade}", *asker, "--", f"{job.system}!{command}", *(f"({word})" for word in words))

@@ -7,16 +7,22 @@ from contextlib import suppress
 
 from . import bundle, files
 from .errors import LATER, Failure, SpoolError
+from .jobs import Job
 from .site import Site
 from .spool import Line, Queued, Refused, Settled, Unpacked
 from .texts import one_line, plain
 
 _MOST_DOUBLINGS = 10
+_NEVER_TAKEN = ("NoBundle", "OtherSender", "OtherSite", "NotSealed", "WrongKey")  # what the program calls such a text
 _MOST_WAITING = 5000  # jobs of a neighbour that wait here, above which no more are taken
 
 
 class NotTaken(Exception):
     """A text isn't a bundle for this site, or the spool fails."""
+
+
+class NoBundle(NotTaken):
+    """A text never can be taken."""
 
 
 class Taken:
@@ -51,9 +57,9 @@ def finish_moves(site: Site, neighbour: str) -> bool:
 
 
 def expect_size(neighbour: str, text: bytes) -> None:
-    """NotTaken if more came than a bundle can have."""
+    """NoBundle if more came than a bundle can have."""
     if len(text) > bundle.MOST:
-        raise NotTaken(f"more than {bundle.MOST} bytes came from {neighbour}, so it is no bundle")
+        raise NoBundle(f"more than {bundle.MOST} bytes came from {neighbour}, so it is no bundle")
 
 
 class Neighbour:
@@ -112,7 +118,8 @@ class Neighbour:
             settled = self._site.spool.settle(self._name, text) if bundle.has_line(text, b"has", b"no") else Settled((), ())
             taken = Taken(settled, *self._unpack(text, replies and not settled.refused))
         except SpoolError as error:
-            raise NotTaken(self._explained(str(error), text)) from None
+            kind = NoBundle if any(f"bundle: {name}" in str(error) for name in _NEVER_TAKEN) else NotTaken
+            raise kind(self._explained(str(error), text)) from None
         if "NoSystem" in taken.unpacked.refusals:
             others = f", and {' '.join(self._onward)}" if self._onward else ""
             taken.own_fault = f"the sys file here has to define {self._site.own}, this site's own name{others}"
@@ -133,10 +140,14 @@ class Neighbour:
         most = self._site.session.setting("UUSPOOL_MOST_WAITING", _MOST_WAITING)
         known = files.read_bytes(self._waits)
         if known is not None and not (known.isdigit() and int(known) < most):
-            count = sum(job.sender == self._name for job in self._site.spool.waiting())
+            count = sum(self._causes(job) for job in self._site.spool.waiting())
             if count >= most:
-                raise NotTaken(f"{count} jobs of {self._name} wait at {self._site.own}, so it takes more later")
+                raise NotTaken(f"{count} jobs of {self._name} wait at {self._site.own}, with letters for it, so it takes more later")
         files.touch_if_possible(self._waits)
+
+    def _causes(self, job: Job) -> bool:
+        """Whether the neighbour sent a job, or made this site write it a letter."""
+        return job.sender == self._name or (job.is_letter and job.system == self._name)
 
     def _note_waiting(self, queues: bytes) -> None:
         """Keeps how many jobs wait after a bundle. Nothing is there from its unpacking on, and so if a stop comes."""

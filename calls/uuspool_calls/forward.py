@@ -13,7 +13,8 @@ from .values import NamedTuple
 _MAILNAME = "/etc/mailname"  # Debian's name of the domain of this machine's mail
 _USER = r"\w[\w.+=&'~#^-]*"  # without signs by which a mailer finds another host, a file, a program or a variable
 _AT_DOMAIN = rf"{_USER}@([A-Za-z0-9.-]+)"
-_PATH = rf"([A-Za-z0-9._-]+)!([A-Za-z0-9._-]+!)*{_USER}"
+_SYSTEM = r"[A-Za-z0-9._][A-Za-z0-9._-]*"  # what is handed on begins with the next one, and mustn't look like an option
+_PATH = rf"({_SYSTEM})!(?:{_SYSTEM}!)*{_USER}"
 
 
 class Forward(NamedTuple):

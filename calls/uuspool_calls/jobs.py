@@ -4,6 +4,7 @@ from collections.abc import Sequence
 from .errors import Refusal
 from .values import NamedTuple
 
+MAIL = "rmail"  # ADDRESS..: delivers mail
 REQUEST = "uuspool-request"  # FROM TO [-m] [-nUSER]: a request with wishes
 
 class Job(NamedTuple):

@@ -7,6 +7,7 @@ from .values import NamedTuple
 _FIRST_WAIT, _MOST_WAIT = 600, 14400
 _MOST_DOUBLINGS = 10
 DAYS = 5  # after which a job that always failed is refused
+_LEAST_TRIES = 20  # before that: 5 days are some 34, and a clock that jumps is none
 
 
 class Tries(NamedTuple):
@@ -36,7 +37,7 @@ class Tries(NamedTuple):
 
     def is_old(self, now: int) -> bool:
         """Whether it failed for too long."""
-        return now - self.first > DAYS * 86400
+        return now - self.first > DAYS * 86400 and self.failed >= _LEAST_TRIES
 
     def after_failure(self, why: str, now: int) -> "Tries":
         """The record after one more try: the next is twice as late as this one was."""

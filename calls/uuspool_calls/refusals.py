@@ -24,6 +24,7 @@ from .values import NamedTuple
 _MOST_LETTERS = 20  # to one local user, or to one neighbour, at a time
 _LOOKED = ".looked"  # when the age and the size of what is kept were looked at
 _BETWEEN_LOOKS = 3600  # seconds
+_JUMP = 30 * 86400  # seconds between two looks, if not a clock jumped
 _DAYS = 90
 _MEGABYTES = 64
 _DAY = 86400
@@ -194,13 +195,21 @@ def _tell(site: Site, group: Sequence[Kept]) -> bool:
     return True
 
 
+def is_time_to_look(site: Site) -> bool:
+    """Whether it is looked now how old things are, an hour after the last time. If that seems to be much longer ago, a
+    clock that jumped would make all of them old, so the next time counts."""
+    looked = f"{site.folder}/refused/{_LOOKED}"
+    seen = files.look(looked)
+    passed = time.time() - seen.st_mtime if seen else -1
+    if 0 <= passed < _BETWEEN_LOOKS:
+        return False
+    files.touch_if_possible(looked)
+    return 0 <= passed < _JUMP
+
+
 def forget_old(site: Site) -> None:
     """Removes what was refused long ago, and the oldest of a sender that fills the disk."""
-    folder, looked = f"{site.folder}/refused", f"{site.folder}/refused/{_LOOKED}"
-    with contextlib.suppress(OSError):
-        if 0 <= time.time() - os.stat(looked).st_mtime < _BETWEEN_LOOKS:
-            return
-    files.touch_if_possible(looked)
+    folder = f"{site.folder}/refused"
     oldest = time.time() - site.session.setting("UUSPOOL_REFUSED_DAYS", _DAYS) * _DAY
     most = site.session.setting("UUSPOOL_REFUSED_MEGABYTES", _MEGABYTES) << 20
     sums: collections.Counter[str] = collections.Counter()
