@@ -209,7 +209,10 @@ class Refusing(Folder):
         self.assertEqual(["the user of job 7, which is refused, cannot be told: /mailer takes no letter"], self.site.session.said)
         self.assertEqual(["ann", "postmaster"], [words[-1] for words, _ in self.mailer.ran])
         self.mailer.status = 0
-        self.assertEqual((0, False), (tell(self.site), has_untold(self.site)))
+        for passed, asked, told in (300, 2, 75), (700, 3, 0):  # (the mailer isn't asked in each round)
+            os.utime(f"{self.folder}/refused/.failed", (time.time() - passed,) * 2)
+            self.assertEqual((told, asked, told == 75), (tell(self.site), len(self.mailer.ran), has_untold(self.site)))
+        self.assertFalse(os.path.exists(f"{self.folder}/refused/.failed"))
 
     def test_many_refusals_are_one_letter(self) -> None:
         for number in range(60):

@@ -1,4 +1,5 @@
 """Files in pieces: how they are named, kept, delivered, refused and queued."""
+import errno
 import hashlib
 import json
 import os
@@ -7,7 +8,7 @@ import time
 import unittest
 from unittest import mock
 
-from uuspool_calls import deliver, outgoing, pieces, refusals
+from uuspool_calls import clock, deliver, files, outgoing, pieces, records, refusals
 from uuspool_calls.delivery import Delivery, Outcome, Wishes
 from uuspool_calls.errors import Delay, Failure, Refusal, SpoolError
 from uuspool_calls.files import memory_file
@@ -156,6 +157,32 @@ class Coming(Arrivals):
             self.number = 2
             self.delivery.forget(self.job(words_of(DATA, 2000, "exec", "rmail", "joe"), -1))
             self.assertEqual([["about"]], self.kept())
+
+    def test_delivered_once_though_there_is_no_room_for_the_note(self) -> None:
+        replace, fails_from = files.replace, 0
+
+        def full(path: str, data: bytes | int, mode: int = 0o600) -> None:
+            if os.path.exists(f"{self.folder}/ran") or not fails_from:
+                raise OSError(errno.ENOSPC, os.strerror(errno.ENOSPC))
+            replace(path, data, mode)
+
+        for at in 0, 1000:
+            self.take(DATA, at, "exec", "rmail", "joe")
+        with mock.patch.object(files, "replace", full):
+            with self.assertRaisesRegex(Delay, "piece 3 of 3 of joe cannot be kept .*: No space left on device"):
+                self.take(DATA, 2000, "exec", "rmail", "joe")
+            self.assertFalse(os.path.exists(f"{self.folder}/ran"))
+            fails_from = 1
+            for number in 7, 7, 8:  # the same job again, and another one with this piece
+                self.number = number - 1
+                how = self.take(DATA, 2000, "exec", "rmail", "joe").how
+                self.assertEqual("delivered" if number == 7 else "came-before", how)
+        self.assertEqual(1, len(self.bytes_of("ran").splitlines()))
+
+    def test_a_note_that_cannot_be_made_is_said(self) -> None:
+        with mock.patch.object(pieces.File, "note_came", side_effect=OSError(errno.EROFS, "Read-only file system")):
+            self.assertTrue(self.take(DATA[:10], 0, "exec", "rmail", "joe").is_last)
+        self.assertRegex(self.session.said[0], "^exec rmail joe is delivered, and that cannot be noted in .*: Read-only file system")
 
     def test_a_command_gets_the_whole_with_its_envelope(self) -> None:
         data = b"Subject: x\n\n" + bytes(2 << 20)
@@ -330,12 +357,31 @@ class Letters(Refused):
     def test_who_cannot_be_told_is_told_later(self) -> None:
         self.spool.fails["mail"] = SpoolError(3, "uuspool: spool: store")
         self.site.environment["UUSPOOL_SENDMAIL"] = "/nowhere"
-        with self.assertRaisesRegex(Failure, "job 1 is delivered, and a!ann cannot be told"):
-            self.give(0, "send", "/x", "~/in/x", "-m", data=b"abc")
+        self.assertEqual(0, self.give(0, "send", "/x", "~/in/x", "-m", data=b"abc"))
+        self.assertEqual("mysite a!ann 1 waits it is delivered, and a!ann cannot be told: /nowhere takes no letter", self.log[-1])
         os.remove(f"{self.folder}/public/a/in/x")
+        job = self.spool.parcels[1].job
+        self.assertEqual([[], [1]], [deliver.due(self.folder, [job], clock.now() + it) for it in (590, 610)])  # (not in each round)
+        tries = records.Tries.read(f"{self.folder}/deliver", job, 0)
         self.spool.fails = {}
         self.assertEqual(0, self.give(0, "send", "/x", "~/in/x", "-m", number=1, data=b"abc"))
         self.assertEqual((2, False), (len(self.letters()), os.path.exists(f"{self.folder}/public/a/in/x")))
+        self.spool.fails["mail"] = SpoolError(3, "uuspool: spool: store")
+        tries._replace(failed=30, first=0).write(f"{self.folder}/deliver", 1)
+        self.assertEqual(0, self.give(0, "send", "/x", "~/in/x", "-m", number=1, data=b"abc"))
+        self.assertEqual("mysite a!ann 1 delivered send /x ~/in/x -m", self.log[-1])
+
+    def test_a_command_runs_once_though_the_spool_cannot_note_it(self) -> None:
+        self.spool.fails["done"] = SpoolError(3, "uuspool: spool: store")
+        self.spool.parcels[1] = parcel("1 mysite a!ann B 2026-11-28 10:00:00 5 exec rmail joe")
+        for _ in range(3):
+            with self.assertRaisesRegex(Failure, "job 1 is delivered, and that cannot be noted: uuspool: spool: store"):
+                self.deliverer.deliver(1)
+            self.assertEqual([1], deliver.due(self.folder, [self.spool.parcels[1].job], clock.now()))
+        self.spool.fails = {}
+        self.assertEqual(0, self.deliverer.deliver(1))
+        self.assertEqual((1, "mysite a!ann 1 delivered exec rmail joe"), (len(self.bytes_of("ran").splitlines()), self.log[-1]))
+        self.assertFalse(os.path.exists(f"{self.folder}/deliver/1"))
 
     def test_wishes(self) -> None:
         self.assertEqual(Wishes(True, "bob"), Wishes.read(["-m", "-nbob"]))

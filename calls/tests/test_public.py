@@ -1,11 +1,14 @@
 """The public folder, while somebody puts links there, and where mail may go."""
 import os
+import time
 from functools import partial
+from unittest import mock
 
 from uuspool_calls import envelope, forward, public
 from uuspool_calls.errors import Delay, Refusal
 from uuspool_calls.files import memory_file
 from uuspool_calls.jobs import Delivered
+from uuspool_calls.processes import Child
 
 from .standins import Folder
 
@@ -191,14 +194,44 @@ class Public(Folder):
         self.assertEqual(["all", "mysite has no file ~/y", "~/duke/y came", "~/link came"], [asked["unc", it] for it in ("~/for-all/x", "~/y", "~/duke/y", "~/link")])
 
     def test_without_nameless_files(self) -> None:
-        before = public._MAKE_NAMELESS
-        try:
-            public._MAKE_NAMELESS = os.O_WRONLY | os.O_DIRECTORY  # EISDIR, as a file system without them says
+        with mock.patch.object(public, "_MAKE_NAMELESS", os.O_WRONLY | os.O_DIRECTORY):  # EISDIR, as a file system without them says
             self.test_nothing_of_another_is_replaced()
             self.test_a_neighbour_alone_replaces_its_own()
-        finally:
-            public._MAKE_NAMELESS = before
-        self.assertEqual([], [it for _, _, names in os.walk(f"{self.folder}/public") for it in names if it.startswith(".new")])
+        self.assertEqual([], self.new_files())
+
+    def new_files(self) -> list[str]:
+        return sorted(it for _, _, names in os.walk(f"{self.folder}/public") for it in names if it.startswith(".new"))
+
+    def test_what_a_kill_left_is_removed_a_day_later(self) -> None:
+        def kill(source: int, target: int) -> None:
+            os._exit(9)
+
+        with mock.patch.object(public, "_MAKE_NAMELESS", os.O_WRONLY | os.O_DIRECTORY):
+            for _ in range(2):
+                with mock.patch.object(public, "copy_all", kill):
+                    child = Child(lambda: len(self.put_file("~/x")))
+                    self.assertEqual(9, child.wait())
+            left, younger = self.new_files()
+            before = time.time() - 90_000
+            for name in f".new.{'0' * 16}", ".news":
+                os.utime(self.put(f"public/{name}"), (before, before))
+            os.mkdir(f"{self.folder}/public/.new.folder")
+            self.give_if_root(f"public/.new.{'0' * 16}")
+            os.utime(f"{self.folder}/public/{left}", (before, before))
+            self.put_file("~/x")
+            kept = [younger, ".news", *([f".new.{'0' * 16}"] if os.geteuid() == 0 else [])]
+            self.assertEqual(sorted(kept), self.new_files())
+        its = public.Public(f"{self.folder}/public", "mysite", "duke")
+        for data in b"old", b"new":  # (also where files have no name at first, and replace another one)
+            os.makedirs(f"{self.folder}/public/duke", exist_ok=True)
+            os.utime(self.put("public/duke/.new.1"), (before, before))
+            with memory_file(data) as content:
+                its.put("~/x", content)
+        self.assertFalse(os.path.exists(f"{self.folder}/public/duke/.new.1"))
+
+    def give_if_root(self, path: str) -> None:
+        if os.geteuid() == 0:
+            os.chown(f"{self.folder}/{path}", 1, 1)
 
 
 class Forwarding(Folder):

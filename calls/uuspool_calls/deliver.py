@@ -185,6 +185,8 @@ class Deliverer:
     def _try(self, parcel: Parcel) -> int:
         now = clock.now()
         tries = records.Tries.read(self._folder, parcel.job, now)
+        if tries.came:
+            return self._finish(parcel.job, Outcome(tries.came), tries, now)
         try:
             with files.memory_file(parcel.data) as content:
                 outcome = self._hand_over(self._delivered(parcel.job, content), parcel.job)
@@ -192,7 +194,7 @@ class Deliverer:
             return self.give_up(parcel, str(refusal))
         except Delay as delay:
             return self._fail(parcel, tries, str(delay), now)
-        return self._finish(parcel.job, outcome)
+        return self._finish(parcel.job, outcome, tries, now)
 
     def _delivered(self, job: Job, content: int) -> Delivered:
         name = f"{self._own}!{job.number}!{job.day}.{job.hour}"
@@ -280,10 +282,17 @@ class Deliverer:
         self._site.log.note(self._own, job.user, job.number, "waits", tries.why)
         return 0
 
-    def _finish(self, job: Job, outcome: Outcome) -> int:
-        self._tell(job, outcome)
-        with spool_needed(f"job {job.number} is delivered, and that cannot be noted"):
+    def _finish(self, job: Job, outcome: Outcome, tries: records.Tries, now: int) -> int:
+        try:
+            self._tell(job, outcome)
+        except NotSent as error:
+            if not tries.is_old(now):
+                return self._try_later(job, tries.after_failure(f"it is delivered, and {outcome.wishes.notify or job.user} cannot be told: {error}", now))
+        try:
             self._site.spool.done(self._own, job.number)
+        except SpoolError as error:
+            self._note_came(job, outcome, tries)
+            raise Failure(LATER, f"job {job.number} is delivered, and that cannot be noted: {error}") from None
         self._site.log.note(self._own, job.user, job.number, outcome.how, outcome.what)
         records.forget(self._folder, job.number)
         files.remove(f"{self._folder}/{job.number}{_WORKS}")
@@ -292,15 +301,18 @@ class Deliverer:
                 self._delivery.forget(self._delivered(job, -1))
         return 0
 
+    def _note_came(self, job: Job, outcome: Outcome, tries: records.Tries) -> None:
+        """The command of a job doesn't run again. (A file in pieces has a note of its own.)"""
+        if outcome.how == "delivered" and not outcome.is_last:
+            with self._site.writing("deliver"):
+                tries._replace(came=outcome.what).write(self._folder, job.number)
+
     def _tell(self, job: Job, outcome: Outcome) -> None:
         """The letters that the sender of a file asked for. (The second may come twice after a stop.)"""
         mailroom, own, to = Mailroom(self._site), self._own, outcome.wishes.notify
-        try:
-            if outcome.wishes.mail and not job.is_letter:
-                mailroom.send_word(job.user, f"came: {outcome.what}", f"Your file came to {own}: {outcome.what}.", f"{own}!{job.number}!came")
-            if to:
-                place = self._delivery.public_of(job.sender).place
-                sentence = f"A file of {job.user} came: {outcome.what}. It is below {place}."
-                mailroom.send_word(to, f"a file from {job.user}", sentence)
-        except NotSent as error:
-            raise Failure(LATER, f"job {job.number} is delivered, and {to or job.user} cannot be told: {error}") from None
+        if outcome.wishes.mail and not job.is_letter:
+            mailroom.send_word(job.user, f"came: {outcome.what}", f"Your file came to {own}: {outcome.what}.", f"{own}!{job.number}!came")
+        if to:
+            place = self._delivery.public_of(job.sender).place
+            sentence = f"A file of {job.user} came: {outcome.what}. It is below {place}."
+            mailroom.send_word(to, f"a file from {job.user}", sentence)

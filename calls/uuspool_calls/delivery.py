@@ -107,9 +107,21 @@ class Delivery:
             if file.is_refused or not file.is_whole():
                 return Outcome(f"{piece.place} of {whole.what}", "refused" if file.is_refused else "kept")
             with file.opened() as content:
+                self._prepare_note(file, job, whole)
                 outcome = self.deliver(whole._replace(content=content))
-            file.note_came(job.name, outcome.what)
+            try:
+                file.note_came(job.name, outcome.what)
+            except OSError as error:
+                # (It isn't delivered again, since the spool perhaps can note it.)
+                self._session.say(f"{whole.what} is delivered, and that cannot be noted in {file.folder}: {error.strerror}")
             return outcome._replace(is_last=True)
+
+    def _prepare_note(self, file: File, job: Delivered, whole: Delivered) -> None:
+        """A command doesn't begin if there is no room for the note that it ended, or it would run again."""
+        try:
+            file.prepare_note(job.name, whole.what)
+        except OSError as error:
+            raise cannot_be_kept(_piece(job), self._folder, error) from None
 
     def set_aside(self, job: Delivered, why: str) -> bool:
         """Refuses the file of which a job is a piece, as far as it came. Whether it is one."""

@@ -145,6 +145,12 @@ def touch_if_possible(path: str) -> None:
         touch(path)
 
 
+def is_fresh(path: str, seconds: float) -> bool:
+    """Whether a mark was made so few seconds ago."""
+    seen = look(path)
+    return seen is not None and 0 <= time.time() - seen.st_mtime < seconds
+
+
 def names_in(folder: str) -> list[str]:
     """The names in a folder, sorted; none if the folder isn't there."""
     with contextlib.suppress(OSError):

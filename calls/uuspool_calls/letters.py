@@ -12,6 +12,7 @@ from .values import NamedTuple
 _FROM = "MAILER-DAEMON"
 _NULL = "<>"  # the sender in the envelope, so that no mailer sends a letter about a letter
 _LIMIT = 60  # seconds for the mailer
+PAUSE = 600  # seconds until a mailer that took no letter is asked again, by what is done each minute
 _SHOWN_BYTES, _SHOWN_LINES, _SHOWN_JOBS = 2000, 20, 100
 
 

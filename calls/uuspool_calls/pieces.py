@@ -34,6 +34,7 @@ _FREE = 20  # a part of the disk stays free of pieces: one of so many
 _MOST_DIGITS = 18  # of a size or a place
 _MOST_OF_A_MARK = 64
 _ABOUT, _WHOLE = "about", "whole"
+_CAME = "came"  # becomes _ABOUT once the whole is delivered, if the disk is full then
 
 
 class Piece(NamedTuple):
@@ -152,9 +153,9 @@ class About(NamedTuple):
         except (KeyError, TypeError, ValueError, IndexError):
             return None
 
-    def write(self, folder: str) -> None:
+    def write(self, folder: str, name: str = _ABOUT) -> None:
         """Keeps it."""
-        files.write_record(f"{folder}/{_ABOUT}", {name: value for name, value in self._asdict().items() if value})
+        files.write_record(f"{folder}/{name}", {name: value for name, value in self._asdict().items() if value})
 
 
 def _adopted(folder: str, user: str, to: str, size: int) -> About:
@@ -234,10 +235,17 @@ class File:
                 raise Refusal(f"the pieces of {self.about.piece.words[-1]} are not those of one file, which changed while it was queued")
             yield whole
 
+    def prepare_note(self, job: str, what: str) -> None:
+        """Writes what `note_came` needs if there is no room for more."""
+        self.about._replace(came=job, what=what).write(self.folder, _CAME)
+
     def note_came(self, job: str, what: str) -> None:
         """Keeps with which job it was delivered, and what that was."""
         self.about = self.about._replace(came=job, what=what)
-        self.about.write(self.folder)
+        try:
+            self.about.write(self.folder)
+        except OSError:
+            os.replace(f"{self.folder}/{_CAME}", f"{self.folder}/{_ABOUT}")
 
     def count(self) -> int:
         """How many pieces are here."""

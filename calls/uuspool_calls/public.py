@@ -27,6 +27,8 @@ _AHEAD = 2 * 86400  # seconds by which the mark is newer than any file there
 _CANNOT_BE_NAMELESS = (errno.EOPNOTSUPP, errno.EISDIR, errno.ENOENT)  # a file, on this disk
 _SIGNS = frozenset("'\"\\")  # that no name has
 _MOST_NUMBERS = 1000
+_NEW = ".new."  # begins the name of a file that gets its own when it is whole
+_LEFT = 86400  # seconds after which such a file is what a kill left
 _BLOCK = 1 << 20
 
 
@@ -230,7 +232,7 @@ class _New:
         except OSError as error:
             if error.errno not in _CANNOT_BE_NAMELESS:
                 raise
-            self._name = _name_of_a_new_file()
+            self._name = _name_of_a_new_file(self._folder)
             self._handle = os.open(self._name, _MAKE_FILE, 0o600, dir_fd=self._folder)
         try:
             copy_all(self._content, self._handle)
@@ -271,7 +273,7 @@ class _New:
                 return _is_ours(self._folder, name) and _has_bytes(self._folder, name, self._content)
         if not _is_ours(self._folder, name):
             return False
-        new = _name_of_a_new_file()
+        new = _name_of_a_new_file(self._folder)
         self._link(new)
         os.replace(new, name, src_dir_fd=self._folder, dst_dir_fd=self._folder)
         return True
@@ -283,8 +285,15 @@ class _New:
             os.link(f"/proc/self/fd/{self._handle}", name, dst_dir_fd=self._folder, follow_symlinks=True)
 
 
-def _name_of_a_new_file() -> str:
-    return f".new.{os.urandom(8).hex()}"
+def _name_of_a_new_file(folder: int) -> str:
+    """The name of a file that isn't whole yet. What a kill left of others in this folder is removed."""
+    before = clock.now() - _LEFT
+    for name in os.listdir(folder):
+        if name.startswith(_NEW) and _is_ours(folder, name):
+            with contextlib.suppress(OSError):
+                if os.stat(name, dir_fd=folder, follow_symlinks=False).st_mtime < before:
+                    os.remove(name, dir_fd=folder)
+    return f"{_NEW}{os.urandom(8).hex()}"
 
 
 def _place_of(handle: int) -> str:

@@ -11,14 +11,15 @@ _LEAST_TRIES = 20  # before that: 5 days are some 34, and a clock that jumps is 
 
 
 class Tries(NamedTuple):
-    """How often a job failed, when it is tried again, when it was first tried, and why it failed. A record
-    is about one job, and has the job's line."""
+    """How often a job failed, when it is tried again, when it was first tried, and why it failed. If it was delivered, and
+    the spool couldn't note that, what was. A record is about one job, and has the job's line."""
 
     job: str
     failed: int
     next: int
     first: int
     why: str = ""
+    came: str = ""
 
     @staticmethod
     def read(folder: str, job: Job, now: int) -> "Tries":
@@ -26,7 +27,7 @@ class Tries(NamedTuple):
         record = files.read_record(f"{folder}/{job.number}")
         try:
             if record["job"] == job.line:
-                return Tries(job.line, int(record["failed"]), int(record["next"]), int(record["first"]), str(record["why"]))
+                return Tries(job.line, int(record["failed"]), int(record["next"]), int(record["first"]), str(record["why"]), str(record.get("came", "")))
         except (KeyError, TypeError, ValueError):
             pass
         return Tries(job.line, 0, 0, now)

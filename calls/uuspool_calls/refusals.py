@@ -15,7 +15,7 @@ from collections.abc import Iterator, Sequence
 from . import files, pieces
 from .errors import LATER, SpoolError
 from .jobs import Job, Parcel
-from .letters import Letter, Mailroom, NotSent
+from .letters import PAUSE, Letter, Mailroom, NotSent
 from .pieces import FILE, UNTOLD
 from .site import Site
 from .texts import printable
@@ -23,6 +23,7 @@ from .values import NamedTuple
 
 _MOST_LETTERS = 20  # to one local user, or to one neighbour, at a time
 _LOOKED = ".looked"  # when the age and the size of what is kept were looked at
+_FAILED = ".failed"  # when a letter couldn't be sent
 _BETWEEN_LOOKS = 3600  # seconds
 _JUMP = 30 * 86400  # seconds between two looks, if not a clock jumped
 _DAYS = 90
@@ -149,15 +150,21 @@ def _kept_file(path: str) -> Kept | None:
 
 def tell(site: Site) -> int:
     """Writes to the users of jobs that were refused and that nobody was told about. The status is that of the
-    command: if a letter can't be sent now, that is tried again."""
+    command: if a letter can't be sent now, that is tried again some minutes later."""
+    failed = f"{site.folder}/refused/{_FAILED}"
     with site.lock("refused/.lock") as lock:
         if not lock.take():
             return 0
+        if files.is_fresh(failed, PAUSE):
+            return LATER if has_untold(site) else 0
         groups = collections.defaultdict(list)
         for kept in _untold(site):
             groups[kept.who].append(kept)
-        ends = [_tell(site, group) for group in groups.values()]
-    return 0 if all(ends) else LATER
+        if all([_tell(site, group) for group in groups.values()]):
+            files.remove(failed)
+            return 0
+        files.touch_if_possible(failed)
+    return LATER
 
 
 def has_untold(site: Site) -> bool:
