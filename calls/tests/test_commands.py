@@ -350,15 +350,31 @@ class Small(Folder):
         looks._systems = frozenset(("phs",))
         self.assertFalse(looks._check_requests_by_taylor())
 
+    def test_what_a_check_finds_of_taylors_logins(self) -> None:
+        lines = {"duke": "Caller must log in as duke", "unc": "Alternate 0\n Caller must log in as unc\nAlternate 1\n When called using any login name", "x": "When called using any login name"}
+        text = "".join(f"System: {name}\n {line}\n" for name, line in lines.items())
+        self.put("bin/uuchk", f"#!/bin/sh\ncat <<'END'\nSpool directory {self.folder}/spool\n{text}END\n", 0o755)
+        session = Quiet(self.folder, PATH=f"{self.folder}/bin:{os.environ['PATH']}")
+        looks = check.Check(session)
+        looks._systems = frozenset(("duke", "unc"))
+        looks._check_logins_of_taylor()
+        self.assertEqual(1, len(session.printed))
+        self.assertIn("may say to be unc, fetch what waits", session.printed[0])
+        for mode, found in ((None, 0), (0o755, 0), (0o777, 1), (0o1777, 1)):
+            session.printed.clear()
+            if mode:
+                os.makedirs(f"{self.folder}/spool/.Status", exist_ok=True)
+                os.chmod(f"{self.folder}/spool/.Status", mode)
+            looks._check_status_of_taylor()
+            self.assertEqual(found, len(session.printed))
+
     def test_what_a_check_finds_of_who_may_run_taylors_programs(self) -> None:
         for name, mode in (("uux", 0o4755), ("uucp", 0o4750)):
             self.put(f"bin/{name}", "#!/bin/sh\n", mode)
         session = Quiet(self.folder, PATH=f"{self.folder}/bin:{os.environ['PATH']}")
         looks = check.Check(session)
         looks._owner = pwd.getpwuid(os.geteuid()).pw_name
-        looks._check_users_of_taylor(False)
-        self.assertEqual([], session.printed)
-        looks._check_users_of_taylor(True)
+        looks._check_users_of_taylor()
         lines = [line for line in session.printed if self.folder in line]  # (Taylor's own ones may be on the path, too)
         self.assertRegex(lines[0], f"^{self.folder}/bin/uux: any local user .* 4750 {self.folder}/bin/uux$")
         self.assertEqual(1, len(lines))
