@@ -211,8 +211,17 @@ class Refusing(Folder):
         self.mailer.status = 0
         for passed, asked, told in (300, 2, 75), (700, 3, 0):  # (the mailer isn't asked in each round)
             os.utime(f"{self.folder}/refused/.failed", (time.time() - passed,) * 2)
-            self.assertEqual((told, asked, told == 75), (tell(self.site), len(self.mailer.ran), has_untold(self.site)))
+            self.assertEqual((told, asked, told == 75), (tell(self.site, at_once=False), len(self.mailer.ran), has_untold(self.site)))
         self.assertFalse(os.path.exists(f"{self.folder}/refused/.failed"))
+        self.assertRegex(self.site.session.said[1], "^letters about refused jobs wait, .* asked again after 10 minutes$")
+        self.assertEqual(2, len(self.site.session.said))
+
+    def test_who_asks_for_a_letter_need_not_wait(self) -> None:
+        for status, told in (75, 75), (0, 0):
+            self.mailer.status = status
+            if told:
+                self.refuse()
+            self.assertEqual(told, tell(self.site))
 
     def test_many_refusals_are_one_letter(self) -> None:
         for number in range(60):

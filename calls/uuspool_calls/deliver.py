@@ -59,7 +59,7 @@ def _round(site: Site, deliverer: "Deliverer", lock: files.Lock) -> int:
     for number, status in ended:
         if status > _KILLED:
             deliverer.note_killed(number, status - _KILLED)
-    told = refusals.tell(site)
+    told = refusals.tell(site, at_once=False)
     return LATER if any(status for _, status in ended) else told
 
 

@@ -187,7 +187,7 @@ class Neighbour:
 
         parcel = self._site.spool.show(number)
         if parcel and Refuser(self._site).refuse(parcel, f"it is too large for {self._name}"):
-            tell(self._site)
+            tell(self._site, at_once=False)
 
     def _numbers_to_pass(self) -> int:
         """The neighbour doesn't say up to which number it forgot all, so each bundle of a call that says

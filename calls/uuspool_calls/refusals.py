@@ -148,15 +148,16 @@ def _kept_file(path: str) -> Kept | None:
     return Kept(path, job, os.path.basename(path), b"", about.why, int(number) or None)
 
 
-def tell(site: Site) -> int:
+def tell(site: Site, at_once: bool = True) -> int:
     """Writes to the users of jobs that were refused and that nobody was told about. The status is that of the
-    command: if a letter can't be sent now, that is tried again some minutes later."""
+    command: if a letter can't be sent now, that is tried again, some minutes later unless somebody asks for it."""
     failed = f"{site.folder}/refused/{_FAILED}"
     with site.lock("refused/.lock") as lock:
         if not lock.take():
             return 0
-        if files.is_fresh(failed, PAUSE):
-            return LATER if has_untold(site) else 0
+        if not at_once and files.is_fresh(failed, PAUSE) and has_untold(site):
+            site.session.say(f"letters about refused jobs wait, because the mailer took none: it is asked again after {PAUSE // 60} minutes")
+            return LATER
         groups = collections.defaultdict(list)
         for kept in _untold(site):
             groups[kept.who].append(kept)
