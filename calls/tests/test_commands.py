@@ -350,6 +350,12 @@ class Small(Folder):
         looks._systems = frozenset(("phs",))
         self.assertFalse(looks._check_requests_by_taylor())
 
+    def test_what_a_check_finds_of_settings_that_came(self) -> None:
+        paths = [self.put(f"public/{it}") for it in ("uuspool.toml", "a/uuspool.toml", "a/b/x")]
+        session = Quiet(self.folder)
+        check.Check(session)._check_settings_below(f"{self.folder}/public")
+        self.assertEqual(paths[:2], sorted((line.partition(":")[0] for line in session.printed), key=len))
+
     def test_what_a_check_finds_of_taylors_logins(self) -> None:
         lines = {"duke": "Caller must log in as duke", "unc": "Alternate 0\n Caller must log in as unc\nAlternate 1\n When called using any login name", "x": "When called using any login name"}
         text = "".join(f"System: {name}\n {line}\n" for name, line in lines.items())

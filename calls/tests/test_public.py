@@ -39,6 +39,13 @@ class Public(Folder):
             self.assertGreater(seen[0], seen[1] + 86400)
             os.utime(f"{self.folder}/public/duke/.uuspool", (1, 1))
 
+    def test_no_settings_come(self) -> None:
+        for path in "~/uuspool.toml", "~/a/uuspool.toml", "uuspool.toml", "~/uuspool.toml/x":
+            with self.assertRaisesRegex(Refusal, "mysite takes no file uuspool.toml"):
+                self.put_file(path)
+        self.assertEqual([], os.listdir(f"{self.folder}/public"))
+        self.put_file("~/a/uuspool.toml.txt")
+
     def test_files_and_folders_are_made(self) -> None:
         self.put_file("~/a/b/c", b"bytes")
         self.assertEqual(b"bytes", self.bytes_of("public/a/b/c"))

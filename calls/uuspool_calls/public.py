@@ -22,6 +22,7 @@ _OPEN_FILE = os.O_RDONLY | os.O_NONBLOCK | os.O_NOCTTY | os.O_CLOEXEC
 _MAKE_FILE = os.O_WRONLY | os.O_CREAT | os.O_EXCL | os.O_NOFOLLOW | os.O_CLOEXEC
 _MAKE_NAMELESS = os.O_WRONLY | os.O_TMPFILE | os.O_CLOEXEC
 _COMMON = "/var/spool/uucppublic"
+SETTINGS = "uuspool.toml"
 _MARK = ".uuspool"  # in the folder of a neighbour. No path of a job has such a name
 _AHEAD = 2 * 86400  # seconds by which the mark is newer than any file there
 _CANNOT_BE_NAMELESS = (errno.EOPNOTSUPP, errno.EISDIR, errno.ENOENT)  # a file, on this disk
@@ -103,9 +104,13 @@ def inside(path: str) -> str | None:
 
 
 def expect_inside(path: str, own: str) -> None:
-    """Refusal of a path where no file of a neighbour can come."""
-    if inside(path) is None:
+    """Refusal of a path where no file can come. What the spool's user runs in a folder goes by the settings there, if that
+    are this user's, as what comes is."""
+    rest = inside(path)
+    if rest is None:
         raise Refusal(f"{own} takes files below its public folder alone (~/NAME), not {path}")
+    if SETTINGS in rest.split("/"):
+        raise Refusal(f"{own} takes no file {SETTINGS}, because whoever works in its folder would go by it")
 
 
 class Public:
