@@ -356,6 +356,18 @@ class Small(Folder):
         check.Check(session)._check_settings_below(f"{self.folder}/public")
         self.assertEqual(paths[:2], sorted((line.partition(":")[0] for line in session.printed), key=len))
 
+    def test_what_a_check_finds_of_what_plain_neighbours_fetch(self) -> None:
+        sent = {"duke": "~", "unc": "!/", "phs": "~ !~/duke !~/unc", "gem": "~ !~/duke", "eve": "~", "x": "~"}
+        text = "".join(f"System: {name}\n May send by remote request: {words}\n May execute {'uuspool-answer' if name == 'eve' else 'rmail'}\n" for name, words in sent.items())
+        self.put("bin/uuchk", f"#!/bin/sh\ncat <<'END'\n{text}END\n", 0o755)
+        for path in "duke/.uuspool", "unc/.uuspool", "other/x":
+            self.put(f"public/{path}")
+        session = Quiet(self.folder, PATH=f"{self.folder}/bin:{os.environ['PATH']}", UUSPOOL_PUBLIC=f"{self.folder}/public")
+        looks = check.Check(session)
+        looks._systems = frozenset(("duke", "unc", "phs", "gem", "eve"))
+        looks._check_fetches_by_taylor()
+        self.assertEqual([("duke", "~ !~/unc'."), ("gem", "~ !~/unc'.")], [(line.split()[0], line.rpartition("remote-send ")[2]) for line in session.printed])
+
     def test_what_a_check_finds_of_taylors_logins(self) -> None:
         lines = {"duke": "Caller must log in as duke", "unc": "Alternate 0\n Caller must log in as unc\nAlternate 1\n When called using any login name", "x": "When called using any login name"}
         text = "".join(f"System: {name}\n {line}\n" for name, line in lines.items())

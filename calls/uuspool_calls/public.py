@@ -23,7 +23,7 @@ _MAKE_FILE = os.O_WRONLY | os.O_CREAT | os.O_EXCL | os.O_NOFOLLOW | os.O_CLOEXEC
 _MAKE_NAMELESS = os.O_WRONLY | os.O_TMPFILE | os.O_CLOEXEC
 _COMMON = "/var/spool/uucppublic"
 SETTINGS = "uuspool.toml"
-_MARK = ".uuspool"  # in the folder of a neighbour. No path of a job has such a name
+MARK = ".uuspool"  # in the folder of a neighbour. No path of a job has such a name
 _AHEAD = 2 * 86400  # seconds by which the mark is newer than any file there
 _CANNOT_BE_NAMELESS = (errno.EOPNOTSUPP, errno.EISDIR, errno.ENOENT)  # a file, on this disk
 _SIGNS = frozenset("'\"\\")  # that no name has
@@ -341,15 +341,15 @@ def _mark(folder: int) -> None:
     """Marks the folder of a neighbour. What removes old files, such as Debian's uudemon.day, has to remove the mark
     last, so it gets a time to come."""
     if not _is_marked(folder):
-        os.close(os.open(_MARK, _MAKE_FILE, 0o600, dir_fd=folder))
+        os.close(os.open(MARK, _MAKE_FILE, 0o600, dir_fd=folder))
     ahead = clock.now() + _AHEAD
     with contextlib.suppress(PermissionError):  # (if it is root's)
-        os.utime(_MARK, (ahead, ahead), dir_fd=folder, follow_symlinks=False)
+        os.utime(MARK, (ahead, ahead), dir_fd=folder, follow_symlinks=False)
 
 
 def _is_marked(folder: int) -> bool:
     """Whether this is the folder of a neighbour. (Others can't make such a mark.)"""
-    its = look(_MARK, folder, follows=False)
+    its = look(MARK, folder, follows=False)
     return its is not None and its.st_uid in (os.geteuid(), 0)
 
 
