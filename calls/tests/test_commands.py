@@ -387,7 +387,7 @@ class Small(Folder):
             self.assertEqual(found, len(session.printed))
 
     def test_what_a_check_finds_of_who_may_run_taylors_programs(self) -> None:
-        for name, mode in (("uux", 0o4755), ("uucp", 0o4750)):
+        for name, mode in (("uux", 0o4755), ("uucp", 0o4750), ("uustat", 0o4755)):
             self.put(f"bin/{name}", "#!/bin/sh\n", mode)
         session = Quiet(self.folder, PATH=f"{self.folder}/bin:{os.environ['PATH']}")
         looks = check.Check(session)
@@ -395,7 +395,8 @@ class Small(Folder):
         looks._check_users_of_taylor()
         lines = [line for line in session.printed if self.folder in line]  # (Taylor's own ones may be on the path, too)
         self.assertRegex(lines[0], f"^{self.folder}/bin/uux: any local user .* 4750 {self.folder}/bin/uux$")
-        self.assertEqual(1, len(lines))
+        self.assertRegex(lines[1], f"^{self.folder}/bin/uustat: any local user may run this as .*, and see who writes to whom: ")
+        self.assertEqual(2, len(lines))
 
     def test_who_is_called_by_taylor(self) -> None:
         looks = check.Check(Quiet(self.folder))
