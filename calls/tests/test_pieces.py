@@ -469,6 +469,21 @@ class Going(Folder):
             outgoing.queue(self.site, what, content)
         return self.spool.asked
 
+    def test_a_file_that_grows_while_it_is_read(self) -> None:
+        pread, reads = os.pread, 0
+
+        def growing(handle: int, size: int, at: int) -> bytes:
+            nonlocal reads
+            reads += 1
+            if reads > 20:
+                raise AssertionError("it is read without end")
+            os.ftruncate(handle, at + (4 << 20))
+            return pread(handle, size, at)
+
+        with mock.patch("os.pread", side_effect=growing):
+            asked = self.queue(bytes((1 << 20) + 1))
+        self.assertEqual((["0", "1000000"], "1048577"), ([it[-4] for it in asked], asked[0][5].split(".")[1]))
+
     def test_as_a_job_or_in_pieces(self) -> None:
         self.assertEqual([("send", "-gB", "--once=mysite!7!request", "--", "duke", "~/f", "~/g")], self.queue(bytes(1 << 20)))
         data = bytes((1 << 20) + 1)

@@ -45,9 +45,9 @@ def mark_of(job: str) -> str:
 
 
 def _cut(content: int, length: int, what: Parcelled) -> Iterator[tuple[Piece, bytes]]:
-    """The pieces of an open file, and the bytes of each."""
+    """The pieces of an open file, and the bytes of each. (Of one that grows, what it had at the beginning.)"""
     size, digest, at = os.fstat(content).st_size, sha256(), 0
-    while block := os.pread(content, 1 << 20, at):
+    while block := os.pread(content, min(1 << 20, size - at), at):
         digest.update(block)
         at += len(block)
     for at in range(0, max(1, size), length):
