@@ -181,6 +181,7 @@ MEMORY = {
     "version": ([], ["--version"], b"", []),
     "list, version 1": (1, ["list"], b"", []),
     "list, version 2": (2, ["list"], b"", []),
+    "list, version 3": (3, ["list"], b"", []),
     "send, version 2": (2, [*AT, "send", "duke", "/tmp/a", "~/a", "--once", "unc!7"], JOB, [(["list"], b"")]),
     "a bad sys file": ([DUKE], ["load"], b"system a\nsystem a\n", []),
 }
