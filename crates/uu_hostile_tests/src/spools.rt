@@ -625,7 +625,7 @@ const INTO_1: &[&str] = &[
 ];
 
 // The rows of FULL in those tables.
-const SYSTEMS_OF_FULL: &str = "INSERT INTO systems VALUES ('duke', 26, 0, 0, 0, 0, NULL), ('unc', 2, 1000116000, 1, 1200, 1, 'busy')";
+const SYSTEMS_OF_FULL: &str = "INSERT INTO systems VALUES ('duke', 26, 0, 0, 0, 0, NULL), ('unc', 2, 1000116000, 1, 600, 1, 'busy')";
 const LINES_OF_FULL: &str = "INSERT INTO lines VALUES ('duke', 0, 61, NULL), ('unc', 0, 61, 20)";
 const RANGES_OF_FULL: &str = "INSERT INTO ranges VALUES ('duke', 0, 0, 10079), ('unc', 0, 1440, 1915), ('unc', 0, 2825, 3355), ('unc', 0, 4265, 4795), ('unc', 0, 5705, 6235), ('unc', 0, 7145, 7675), ('unc', 0, 8585, 8639)";
 const FIRST_PIECES: &str =
