@@ -352,15 +352,20 @@ class Small(Folder):
 
     def test_what_a_check_finds_of_settings_that_came(self) -> None:
         paths = [self.put(f"public/{it}") for it in ("uuspool.toml", "a/uuspool.toml", "a/b/x")]
+        os.symlink("a", f"{self.folder}/public/link")
+        os.makedirs(f"{self.folder}/public/c")
+        os.symlink("../a/uuspool.toml", f"{self.folder}/public/c/uuspool.toml")
         session = Quiet(self.folder)
-        check.Check(session)._check_settings_below(f"{self.folder}/public")
+        looks = check.Check(session)
+        looks._owner = pwd.getpwuid(os.geteuid()).pw_name
+        looks._check_settings_below(f"{self.folder}/public")
         self.assertEqual(paths[:2], sorted((line.partition(":")[0] for line in session.printed), key=len))
 
     def test_what_a_check_finds_of_what_plain_neighbours_fetch(self) -> None:
         sent = {"duke": "~", "unc": "!/", "phs": "~ !~/duke !~/unc", "gem": "~ !~/duke", "eve": "~", "x": "~"}
         text = "".join(f"System: {name}\n May send by remote request: {words}\n May execute {'uuspool-answer' if name == 'eve' else 'rmail'}\n" for name, words in sent.items())
         self.put("bin/uuchk", f"#!/bin/sh\ncat <<'END'\n{text}END\n", 0o755)
-        for path in "duke/.uuspool", "unc/.uuspool", "other/x":
+        for path in "duke/.uuspool", "unc/.uuspool", "other/x", "x ~/.uuspool":
             self.put(f"public/{path}")
         session = Quiet(self.folder, PATH=f"{self.folder}/bin:{os.environ['PATH']}", UUSPOOL_PUBLIC=f"{self.folder}/public")
         looks = check.Check(session)
