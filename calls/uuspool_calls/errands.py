@@ -10,6 +10,7 @@ from .texts import is_name
 from .pieces import COMMAND
 from .values import NamedTuple
 
+_ANSWER = "uuspool-answer"  # takes a bundle
 _SHELL = frozenset("\"'`*?[;&()|<>\\$")
 _USER = re.compile(r"(?!-)[A-Za-z0-9._!+-]{1,200}\Z")
 _MOST_OF_A_NAME = 100
@@ -52,6 +53,8 @@ def _execution(job: Job) -> Errand:
     command, *words = job.words
     if command == COMMAND:
         raise Refusal(f"{job.system} has plain Taylor UUCP, and this piece of a file says not where it belongs")
+    if command == _ANSWER:
+        raise Refusal("bundles of this site are made by calls alone")
     if not is_name(command):
         raise Refusal(f"Taylor UUCP can't run a command of such a name: {command}")
     if odd := next((word for word in words if not _SHELL.isdisjoint(word) or not word), None):
