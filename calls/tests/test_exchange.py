@@ -1,5 +1,4 @@
 """What becomes of a bundle, of refused jobs and of moves, with a spool of tables."""
-import contextlib
 import json
 import os
 import signal
@@ -75,17 +74,8 @@ class Taking(Folder):
                 self.assertEqual(b"ours", self.neighbour.answer(JOB))
         self.spool.waiting = lambda system="": [parcel(LINE.replace("ann", "duke!ann")).job] * 2
         self.neighbour.take(JOB)
-        with self.assertRaisesRegex(NotTaken, "2 jobs of duke wait at mysite, with letters for it, so it takes more later"):
+        with self.assertRaisesRegex(NotTaken, "2 jobs of duke wait at mysite, so it takes more later"):
             self.neighbour.take(JOB)
-
-    def test_letters_for_the_neighbour_count(self) -> None:
-        self.site.session.environment["UUSPOOL_MOST_WAITING"] = "2"
-        for system, user, is_full in ("unc", "MAILER-DAEMON", False), ("duke", "ann", False), ("duke", "MAILER-DAEMON", True):
-            self.put("calls/duke.waits")
-            job = parcel(f"9 {system} {user} N 2026-11-28 10:00:00 5 exec rmail joe").job
-            self.spool.waiting = lambda system="", job=job: [job] * 2  # type: ignore[misc]
-            with self.assertRaises(NotTaken) if is_full else contextlib.nullcontext():
-                self.neighbour.take(JOB)
 
     def test_what_is_no_bundle(self) -> None:
         for said, why in (

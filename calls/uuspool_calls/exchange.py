@@ -7,7 +7,6 @@ from contextlib import suppress
 
 from . import bundle, files
 from .errors import LATER, Failure, SpoolError
-from .jobs import Job
 from .site import Site
 from .spool import Line, Queued, Refused, Settled, Unpacked
 from .texts import one_line, plain
@@ -140,14 +139,10 @@ class Neighbour:
         most = self._site.session.setting("UUSPOOL_MOST_WAITING", _MOST_WAITING)
         known = files.read_bytes(self._waits)
         if known is not None and not (known.isdigit() and int(known) < most):
-            count = sum(self._causes(job) for job in self._site.spool.waiting())
+            count = sum(job.sender == self._name for job in self._site.spool.waiting())
             if count >= most:
-                raise NotTaken(f"{count} jobs of {self._name} wait at {self._site.own}, with letters for it, so it takes more later")
+                raise NotTaken(f"{count} jobs of {self._name} wait at {self._site.own}, so it takes more later")
         files.touch_if_possible(self._waits)
-
-    def _causes(self, job: Job) -> bool:
-        """Whether the neighbour sent a job, or made this site write it a letter."""
-        return job.sender == self._name or (job.is_letter and job.system == self._name)
 
     def _note_waiting(self, queues: bytes) -> None:
         """Keeps how many jobs wait after a bundle. Nothing is there from its unpacking on, and so if a stop comes."""
