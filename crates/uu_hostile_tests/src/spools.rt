@@ -601,10 +601,18 @@ fn batches(rt: HostRuntime) {
 // ---- databases that are taken, and a close
 
 // The tables that earlier versions have in other forms, and those that only they have.
-const OLD_SYSTEMS: &str = "CREATE TABLE systems (name TEXT NOT NULL PRIMARY KEY, max_retries INTEGER NOT NULL, last INTEGER NOT NULL, failures INTEGER NOT NULL, wait INTEGER NOT NULL, outcome INTEGER NOT NULL, why TEXT) STRICT";
-const LINES_TABLE: &str = "CREATE TABLE lines (system TEXT NOT NULL, place INTEGER NOT NULL, rank INTEGER NOT NULL, retry INTEGER, PRIMARY KEY (system, place)) STRICT";
-const RANGES_TABLE: &str = "CREATE TABLE ranges (system TEXT NOT NULL, place INTEGER NOT NULL, low INTEGER NOT NULL, high INTEGER NOT NULL, PRIMARY KEY (system, place, low)) STRICT";
-const PIECES_TABLE: &str = "CREATE TABLE pieces (job INTEGER NOT NULL, place INTEGER NOT NULL, bytes BLOB NOT NULL, PRIMARY KEY (job, place)) STRICT";
+const OLD_SYSTEMS: &str =
+    "CREATE TABLE systems (name TEXT NOT NULL PRIMARY KEY, max_retries INTEGER NOT NULL, last INTEGER NOT NULL, failures INTEGER NOT NULL, wait INTEGER NOT NULL, outcome INTEGER NOT NULL, why TEXT) STRICT";
+
+const LINES_TABLE: &str =
+    "CREATE TABLE lines (system TEXT NOT NULL, place INTEGER NOT NULL, rank INTEGER NOT NULL, retry INTEGER, PRIMARY KEY (system, place)) STRICT";
+
+const RANGES_TABLE: &str =
+    "CREATE TABLE ranges (system TEXT NOT NULL, place INTEGER NOT NULL, low INTEGER NOT NULL, high INTEGER NOT NULL, PRIMARY KEY (system, place, low)) STRICT";
+
+const PIECES_TABLE: &str =
+    "CREATE TABLE pieces (job INTEGER NOT NULL, place INTEGER NOT NULL, bytes BLOB NOT NULL, PRIMARY KEY (job, place)) STRICT";
+
 const WAITS_TABLE: &str =
     "CREATE TABLE success_waits (system TEXT NOT NULL PRIMARY KEY, wait INTEGER NOT NULL) STRICT";
 
@@ -625,13 +633,19 @@ const INTO_1: &[&str] = &[
 ];
 
 // The rows of FULL in those tables.
-const SYSTEMS_OF_FULL: &str = "INSERT INTO systems VALUES ('duke', 26, 0, 0, 0, 0, NULL), ('unc', 2, 1000116000, 1, 600, 1, 'busy')";
+const SYSTEMS_OF_FULL: &str =
+    "INSERT INTO systems VALUES ('duke', 26, 0, 0, 0, 0, NULL), ('unc', 2, 1000116000, 1, 600, 1, 'busy')";
+
 const LINES_OF_FULL: &str = "INSERT INTO lines VALUES ('duke', 0, 61, NULL), ('unc', 0, 61, 20)";
-const RANGES_OF_FULL: &str = "INSERT INTO ranges VALUES ('duke', 0, 0, 10079), ('unc', 0, 1440, 1915), ('unc', 0, 2825, 3355), ('unc', 0, 4265, 4795), ('unc', 0, 5705, 6235), ('unc', 0, 7145, 7675), ('unc', 0, 8585, 8639)";
-const FIRST_PIECES: &str =
-    "INSERT INTO pieces SELECT job, 0, substr(bytes, 1, 16384) FROM bodies";
+
+const RANGES_OF_FULL: &str =
+    "INSERT INTO ranges VALUES ('duke', 0, 0, 10079), ('unc', 0, 1440, 1915), ('unc', 0, 2825, 3355), ('unc', 0, 4265, 4795), ('unc', 0, 5705, 6235), ('unc', 0, 7145, 7675), ('unc', 0, 8585, 8639)";
+
+const FIRST_PIECES: &str = "INSERT INTO pieces SELECT job, 0, substr(bytes, 1, 16384) FROM bodies";
+
 const LAST_PIECE: &str =
     "INSERT INTO pieces SELECT job, 1, substr(bytes, 16385) FROM bodies WHERE job = 1";
+
 const WAIT_OF_FULL: &str = "INSERT INTO success_waits VALUES ('unc', 600)";
 
 /// What gives it the tables of version 3.
