@@ -1,6 +1,6 @@
 -- The same sites, if carriers seal what they move. Of what comes over the wire nothing is assumed
 -- but that nobody without a key makes a right tag.
-use Rattle.std.specs.Prelude.{⊤, ℕ, List, [], ◌∷◌, ◌++◌, All, Contains}
+use Rattle.std.specs.Prelude.{⊤, ℕ, List, [], ◌∷◌, ◌++◌, All}
 use Rattle.uu_line.specs.Lines.{MeansLine}
 use Rattle.uu_line.specs.declared.line.CommandLine.{CommandLine}
 use Rattle.uu_line.specs.declared.task.Task.{Task}

@@ -1,5 +1,5 @@
 -- How the way of mail is found, and how the command that queues it and its reply make up the service.
-use Rattle.std.proofs.Common.{◌≡◌, ◌≢◌, ◌∙◌, ◌++◌, ◌∷◌, ◌≤◌, ◌+◌, ◌<◌, ◌&&◌, inl, inr, ℕ, zero, suc, Bool, true, false, List, [], get_or, length, map, take, Option, Some, None, Result, Ok, Err, MatchOption, Vec, if◌then◌else◌, ap, arith, refl, subst, sym}
+use Rattle.std.proofs.Common.{◌≡◌, ◌∙◌, ◌++◌, ◌∷◌, ◌≤◌, ◌<◌, ◌&&◌, inl, inr, ℕ, zero, suc, Bool, true, false, List, [], get_or, length, map, take, Option, Some, None, Result, Ok, Err, MatchOption, Vec, if◌then◌else◌, ap, arith, refl, subst, sym}
 use Rattle.std.specs.Prelude.{◌↔◌, IsTrue, ⊤}
 use Rattle.std.specs.List.{flat_map, list_all}
 use Rattle.std.specs.declared.alloc.Global.{Global}

@@ -1,4 +1,4 @@
-use Rattle.std.proofs.Common.{◌≡◌, ◌∙◌, List, [], ℕ, Bool, Ok, Err, Option, ap, refl, subst, sym}
+use Rattle.std.proofs.Common.{◌≡◌, ◌∙◌, List, [], ℕ, Bool, Ok, Err, Option, ap, refl, subst}
 use Rattle.std.specs.Prelude.{⊤}
 use Rattle.uu_core.specs.State.{State}
 use Rattle.uu_core.specs.Verdict.{verdict}

@@ -1,4 +1,4 @@
-use Rattle.std.proofs.Common.{◌∙◌, List, ap, find, sym, subst}
+use Rattle.std.proofs.Common.{◌∙◌, List, ap, find, subst}
 use Rattle.uu_map.specs.declared.entry.Entry.{Entry}
 use Rattle.uu_routes.specs.Map.{host_for}
 use Rattle.uuspool.specs.Answers.{IsEntryShown, is_of}

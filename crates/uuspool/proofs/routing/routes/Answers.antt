@@ -1,8 +1,7 @@
-use Rattle.std.proofs.Common.{◌≡◌, ◌∙◌, List, [], ℕ, Ok, Err, map, option_copied, subst, sym}
+use Rattle.std.proofs.Common.{◌∙◌, List, [], ℕ, Ok, Err, map, option_copied, subst}
 use Rattle.std.specs.declared.alloc.AllocError.{AllocError}
 use Rattle.std.specs.List.{AllZip}
 use Rattle.std.specs.Io.KnownBytes.{Appends}
-use Rattle.uu_core.specs.State.{MapEntry}
 use Rattle.uu_core.specs.declared.system.SystemRow.{SystemRow}
 use Rattle.uu_map.specs.Entry.{IsEntry}
 use Rattle.uu_map.specs.declared.entry.Entry.{Entry}
