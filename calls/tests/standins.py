@@ -11,7 +11,7 @@ from uuspool_calls.processes import Ended, Processes
 from uuspool_calls.session import Session
 from uuspool_calls.settings import Settings
 from uuspool_calls.site import Site
-from uuspool_calls.spool import Due, Line, Settled, Unpacked
+from uuspool_calls.spool import Due, Line, Queued, Settled, Unpacked
 
 # What `uuspool site` prints in a folder.
 SITE = "name mysite\nsettings {0}/uuspool.toml\nfolder {0}\nspool {0}/s/a b.db\nlog {0}/s/log\n"
@@ -113,6 +113,10 @@ class StandIn:
 
     def waiting(self, system: str = "") -> list[Job]:
         return [it.job for it in self.parcels.values() if system in ("", it.job.system)]
+
+    def queued(self, system: str) -> Queued:
+        jobs = self.waiting(system)
+        return Queued(len(jobs), sum(it.size for it in jobs))
 
     def settle(self, system: str, bundle: bytes) -> Settled:
         self._note("settle", system)

@@ -296,6 +296,16 @@ class Small(Folder):
         jobs = [Job.read(f"{number}{line[1:]}") for number, line in enumerate(lines, 1)]
         self.assertEqual([2, 3], [it.number for it in expire.older(here, jobs, 3650)])
 
+    def test_a_clock_that_jumped_makes_no_job_old(self) -> None:
+        here = site(self.folder, StandIn())
+        hour, day = 3600, 86400
+        for now, running, boot, jump in (
+            (0, 0, "a", None), (day, day, "a", None), (2 * day + hour, 2 * day, "a", None), (33 * day, 3 * day, "a", 29 * day + day - hour), (34 * day, 4 * day, "a", None),
+            (4 * day, 5 * day, "a", -31 * day), (5 * day, 6 * day, "a", None), (95 * day, 1, "b", None), (186 * day, 1, "c", 91 * day), (100 * day, 1, "d", -86 * day), (101 * day, 1, "e", None),
+        ):  # fmt: skip
+            with mock.patch.multiple("uuspool_calls.clock", now=lambda: int(2e9) + now, running=lambda: float(running), boot=lambda: boot):
+                self.assertEqual(jump, expire._jumped(here), (now, running, boot))
+
     def test_held(self) -> None:
         here = site(self.folder, StandIn())
         hold._hold(here, "duke", ends=False)
@@ -337,19 +347,6 @@ class Small(Folder):
         check.Check(session).tell("a\x1b[2Jb\nc is held")
         self.assertEqual(["a?[2Jb?c is held"], session.printed)
 
-    def test_what_a_check_finds_of_taylors_settings(self) -> None:
-        block = " May send by local request: /\n May send by remote request: {}\n May receive by remote request: {}\n May execute {}\n"
-        systems = [("duke", "!/", "!/", "uuspool-answer"), ("unc", "~", "!/", "uuspool-answer"), ("phs", "~", "~", "rmail"), ("x", "~", "~", "uuspool-answer")]
-        text = "".join(f"System: {name}\n{block.format(*words)}\n" for name, *words in systems)
-        self.put("bin/uuchk", f"#!/bin/sh\ncat <<'END'\n{text}END\n", 0o755)
-        session = Quiet(self.folder, PATH=f"{self.folder}/bin:{os.environ['PATH']}")
-        looks = check.Check(session)
-        looks._systems = frozenset(("duke", "unc", "phs"))
-        self.assertTrue(looks._check_requests_by_taylor())
-        self.assertEqual(["unc"], [line.split()[0] for line in session.printed])
-        looks._systems = frozenset(("phs",))
-        self.assertFalse(looks._check_requests_by_taylor())
-
     def test_what_a_check_finds_of_settings_that_came(self) -> None:
         paths = [self.put(f"public/{it}") for it in ("uuspool.toml", "a/uuspool.toml", "a/b/x")]
         os.symlink("a", f"{self.folder}/public/link")
@@ -361,48 +358,6 @@ class Small(Folder):
         looks._check_settings_below(f"{self.folder}/public")
         self.assertEqual(paths[:2], sorted((line.partition(":")[0] for line in session.printed), key=len))
 
-    def test_what_a_check_finds_of_what_plain_neighbours_fetch(self) -> None:
-        sent = {"duke": "~", "unc": "!/", "phs": "~ !~/duke !~/unc", "gem": "~ !~/duke", "eve": "~", "x": "~"}
-        text = "".join(f"System: {name}\n May send by remote request: {words}\n May execute {'uuspool-answer' if name == 'eve' else 'rmail'}\n" for name, words in sent.items())
-        self.put("bin/uuchk", f"#!/bin/sh\ncat <<'END'\n{text}END\n", 0o755)
-        for path in "duke/.uuspool", "unc/.uuspool", "other/x", "x ~/.uuspool":
-            self.put(f"public/{path}")
-        session = Quiet(self.folder, PATH=f"{self.folder}/bin:{os.environ['PATH']}", UUSPOOL_PUBLIC=f"{self.folder}/public")
-        looks = check.Check(session)
-        looks._systems = frozenset(("duke", "unc", "phs", "gem", "eve"))
-        looks._check_fetches_by_taylor()
-        self.assertEqual([("duke", "~ !~/unc'."), ("gem", "~ !~/unc'.")], [(line.split()[0], line.rpartition("remote-send ")[2]) for line in session.printed])
-
-    def test_what_a_check_finds_of_taylors_logins(self) -> None:
-        lines = {"duke": "Caller must log in as duke", "unc": "Alternate 0\n Caller must log in as unc\nAlternate 1\n When called using any login name", "x": "When called using any login name"}
-        text = "".join(f"System: {name}\n {line}\n" for name, line in lines.items())
-        self.put("bin/uuchk", f"#!/bin/sh\ncat <<'END'\nSpool directory {self.folder}/spool\n{text}END\n", 0o755)
-        session = Quiet(self.folder, PATH=f"{self.folder}/bin:{os.environ['PATH']}")
-        looks = check.Check(session)
-        looks._systems = frozenset(("duke", "unc"))
-        looks._check_logins_of_taylor()
-        self.assertEqual(1, len(session.printed))
-        self.assertIn("may say to be unc, fetch what waits", session.printed[0])
-        for mode, found in ((None, 0), (0o755, 0), (0o777, 1), (0o1777, 1)):
-            session.printed.clear()
-            if mode:
-                os.makedirs(f"{self.folder}/spool/.Status", exist_ok=True)
-                os.chmod(f"{self.folder}/spool/.Status", mode)
-            looks._check_status_of_taylor()
-            self.assertEqual(found, len(session.printed))
-
-    def test_what_a_check_finds_of_who_may_run_taylors_programs(self) -> None:
-        for name, mode in (("uux", 0o4755), ("uucp", 0o4750), ("uustat", 0o4755)):
-            self.put(f"bin/{name}", "#!/bin/sh\n", mode)
-        session = Quiet(self.folder, PATH=f"{self.folder}/bin:{os.environ['PATH']}")
-        looks = check.Check(session)
-        looks._owner = pwd.getpwuid(os.geteuid()).pw_name
-        looks._check_users_of_taylor()
-        lines = [line for line in session.printed if self.folder in line]  # (Taylor's own ones may be on the path, too)
-        self.assertRegex(lines[0], f"^{self.folder}/bin/uux: any local user .* 4750 {self.folder}/bin/uux$")
-        self.assertRegex(lines[1], f"^{self.folder}/bin/uustat: any local user may run this as .*, and see who writes to whom: ")
-        self.assertEqual(2, len(lines))
-
     def test_who_is_called_by_taylor(self) -> None:
         looks = check.Check(Quiet(self.folder))
         for name in "uucico", "folder", "taylor":
@@ -410,7 +365,7 @@ class Small(Folder):
         looks._owner = pwd.getpwuid(os.geteuid()).pw_name
         for line, found in (("", False), ("folder /x", False), ("uucico", True), ("taylor --no-call", True)):
             self.put("etc/calls/duke", f"{line}\n")
-            self.assertEqual(found, looks._is_called_by_taylor(), line)
+            self.assertEqual(found, looks._calls_by_taylor(), line)
 
     def test_what_a_check_finds_of_taylors_cleaner(self) -> None:
         os.makedirs(f"{self.folder}/public")

@@ -72,10 +72,19 @@ class Taking(Folder):
             self.assertEqual((counts, b""), (len(counted), self.bytes_of("calls/duke.waits")))
             if is_answered:
                 self.assertEqual(b"ours", self.neighbour.answer(JOB))
+
+    def test_of_a_neighbour_whose_jobs_fill_the_spool_no_more_are_taken_but_it_is_answered(self) -> None:
+        self.site.session.environment["UUSPOOL_MOST_WAITING"] = "2"
         self.spool.waiting = lambda system="": [parcel(LINE.replace("ann", "duke!ann")).job] * 2
-        self.neighbour.take(JOB)
-        with self.assertRaisesRegex(NotTaken, "2 jobs of duke wait at mysite, so it takes more later"):
-            self.neighbour.take(JOB)
+        self.spool.settled = Settled((3,), ())
+        self.assertEqual("", self.neighbour.take(JOB).later)
+        self.spool.asked.clear()
+        text = b"bundle duke mysite - 1 z 8784095817163137413\nhas 3 5\n" + JOB.partition(b"\n")[2]
+        taken = self.neighbour.take(text, replies=True)
+        self.assertEqual(("2 jobs of duke wait at mysite, so it takes more later", (3,), 0), (taken.later, taken.settled.done, taken.unpacked.jobs))
+        self.spool.bundles = [Ended(0, b"ours", b"")] * 2
+        self.assertEqual((b"ours", b"ours"), (self.neighbour.reply(text, is_taken=False), self.neighbour.reply(text)))
+        self.assertEqual([("settle", "duke"), ("pack", "-gz", "--", "duke"), ("answer", "--", "duke", "unc")], self.spool.asked)
 
     def test_what_is_no_bundle(self) -> None:
         for said, why in (
@@ -221,6 +230,15 @@ class Refusing(Folder):
         letters = [words for words in self.spool.asked if words[0] == "mail"]
         self.assertEqual([("mail", "--once=mysite!0!refused", "--", "unc!postmaster")], letters)
         self.assertEqual(60, len(os.listdir(f"{self.folder}/refused")) - 1)
+
+    def test_who_takes_none_of_its_letters_gets_no_more(self) -> None:
+        letters, others = ([parcel(LINE.replace("7", str(at), 1).replace("ann", user)) for at in range(first, first + 1000)] for first, user in ((1, "MAILER-DAEMON"), (2000, "ann")))
+        for waiting, count in (letters, 0), (letters[1:], 1), (letters[1:] + others, 1):
+            self.spool.parcels = {it.job.number: it for it in waiting}
+            self.spool.asked.clear()
+            self.site.log.clear()
+            Mailroom(self.site).send(Letter("x", "x", "x"), parcel(LINE.replace("ann", "duke!ann")).job, b"")
+            self.assertEqual((count, 1 - count), (len(self.spool.asked), len(self.site.log)))
 
     def test_what_a_sender_may_keep_here(self) -> None:
         for number, user in (1, "unc!x"), (2, "unc!x"), (3, "duke!y"), (4, "ann"):

@@ -189,6 +189,11 @@ class Public(Folder):
             duke.put("~/y", content)
             duke.put("~/for-all/x", content)
         os.symlink("duke/y", f"{self.folder}/public/link")
+        self.put("public/open/.uuspool")
+        self.put("public/open/x", "all")
+        os.chmod(f"{self.folder}/public/open", 0o777)  # (where Taylor UUCP may have brought the mark)
+        with unc.opened("~/open/x") as content:
+            self.assertEqual(b"all", os.read(content, 9))
         asked = {}
         for who, it in (("duke", duke), ("unc", unc)):
             for path in "~/for-all/x", "~/y", "~/duke/y", "~/link":

@@ -15,7 +15,7 @@ From below, each importing only what stands before it (`calls/tests/test_layers.
     seals                                   the keys of neighbours
     envelope                                what mail of a neighbour begins with
     letters refusals moves exchange         what becomes of jobs
-    taylor taylorsys wholes errands handover    Taylor UUCP, and the jobs that it has
+    taylor taylorsys taylorcheck wholes errands handover  Taylor UUCP, and the jobs that it has
     delivery carriers outgoing              how a job is delivered, a neighbour called, and a file queued
     traffic progress forecast               how much a call carries, and how fast
     cli, and then the commands

@@ -6,17 +6,18 @@ It is the forced command of the neighbour's key, so this site decides what the n
     command="uuspool-answer mysite",restrict ssh-ed25519 AAAA.. mysite
 
 Nothing is run: everything is queued, for this site, or for a system to which mail of the neighbour is
-handed on. If the spool fails, nothing is answered, and the sender's jobs wait there.
+handed on. If the spool fails, nothing is answered, and the sender's jobs wait there. While too many of its jobs wait
+here, it takes no more, and says nothing of them. The neighbour still gets what waits for it, and the status is 75.
 
 Under Taylor's uuxqt, which sets $UU_MACHINE, the sender is that neighbour, and the words don't count. uux
 queues the answer for it, if the bundle has jobs. (An answer that only refuses jobs gets no answer that
-only refuses.) What never can be taken ends with status 69, so that uuxqt forgets it."""
+only refuses.) What never can be taken is noted in the log, and uuxqt forgets it."""
 import contextlib
 import os
 from collections.abc import Sequence
 
 from . import bundle, carriers
-from .errors import LATER, REFUSED, USAGE, Failure
+from .errors import LATER, USAGE, Failure
 from .exchange import Neighbour, NoBundle, NotTaken, Taken, expect_size, finish_moves
 from .processes import Program
 from .session import Session
@@ -49,26 +50,36 @@ def run(session: Session, words: Sequence[str]) -> int:
 
 def _answer(session: Session, site: Site, sender: str, onward: Sequence[str], machine: str) -> None:
     neighbour = Neighbour(site, sender, [*site.onward(sender), *onward], carriers.most_for(session, sender))
-    never = REFUSED if machine else LATER  # (uuxqt would begin what ends with the latter again, for ever)
     try:
         text = _read(session, sender)
         expect_size(sender, text)
         taken = neighbour.take(text, replies=True)
     except NoBundle as why:
-        raise Failure(never, str(why)) from None
+        _end(site, sender, machine, str(why))
+        return
     except NotTaken as why:
         raise Failure(LATER, str(why)) from None
+    if taken.later and machine:
+        raise Failure(LATER, taken.later)
     if finish_moves(site, sender):
         taken.reply = b""
     site.log.note(sender, "", "", "answered", f"{taken.unpacked.jobs} jobs came, {len(taken.settled.done)} of ours are there")
     # Before this, what the sender says that it has is settled. Otherwise the sender would get it again.
-    ours = taken.reply or neighbour.reply(text)
+    ours = taken.reply or neighbour.reply(text, is_taken=not taken.later)
     if not machine:
         session.processes.write_output(1, ours, session.call_limit)
     elif _needs_answer(taken):
         _queue(site, sender, ours)
-    if fault := taken.own_fault or (taken.faults and taken.faults[-1]):
-        raise Failure(never, fault)
+    if fault := taken.later or taken.own_fault or (taken.faults and taken.faults[-1]):
+        _end(site, sender, machine, fault)
+
+
+def _end(site: Site, sender: str, machine: str, why: str) -> None:
+    """The caller hears what is wrong. What failed below uuxqt would begin again for ever, or be kept for ever, with a letter
+    to whomever it names. So the log alone says it."""
+    if not machine:
+        raise Failure(LATER, why)
+    site.log.note(sender, "", "", "not-taken", why)
 
 
 def _read(session: Session, sender: str) -> bytes:

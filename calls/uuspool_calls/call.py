@@ -200,7 +200,7 @@ class Call:
             if turn and clock.running() >= self._closes:
                 return
             back, taken = self._exchange(ours, before)
-            if asks and not taken and not self._fell:
+            if asks and (not taken or taken.later) and not self._fell:
                 # (The answer comes later, or can't be taken, perhaps on a full disk, where our jobs' leaving makes room.)
                 ours, asks, self._why = first, False, ""
                 continue
@@ -262,8 +262,8 @@ class Call:
             self._progress.count(taken.settled.done, here)
         if taken.own_fault:
             self._site.session.say(taken.own_fault)
-        if taken.faults:
-            self._why = taken.faults[-1]
+        if taken.faults or taken.later:
+            self._why = taken.later or taken.faults[-1]
 
     def _carry(self, ours: bytes) -> tuple[Ended, bool]:
         """Runs the carrier. What it and the neighbour's programs say goes into the log."""

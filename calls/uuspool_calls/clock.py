@@ -15,6 +15,13 @@ def running() -> float:
     return time.clock_gettime(time.CLOCK_BOOTTIME)
 
 
+def boot() -> str:
+    """What tells this start of the machine from others, or nothing."""
+    with contextlib.suppress(OSError), open("/proc/sys/kernel/random/boot_id", encoding="ascii") as file:
+        return file.read().strip()
+    return ""
+
+
 def shown(zone: str, seconds: int) -> str:
     """The date and time of day that a clock of this zone shows, a rule as in the variable TZ."""
     with _in_zone(zone):

@@ -56,6 +56,8 @@ class Delivery:
         if job.kind == "send" and len(job.words) >= 2:
             public.expect_inside(job.words[1], self._own)
             if notify := Wishes.read(job.words[2:]).notify:
+                if job.sender and "!" in notify.removeprefix(f"{self._own}!"):
+                    raise Refusal(f"{self._own} writes to its own users that a file came, not to {notify}")
                 self._expect_forwarded(job.sender, [notify])
         elif job.kind != "exec" or not job.words:
             raise Refusal(f"{self._own} takes no job of the kind {job.kind}")

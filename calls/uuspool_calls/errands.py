@@ -8,6 +8,7 @@ from .errors import Refusal
 from .jobs import MAIL, REQUEST, Job, Wishes
 from .texts import is_name
 from .pieces import COMMAND
+from .public import SETTINGS, inside
 from .values import NamedTuple
 
 _ANSWER = "uuspool-answer"  # takes a bundle
@@ -59,8 +60,8 @@ def _execution(job: Job) -> Errand:
         raise Refusal(f"Taylor UUCP can't run a command of such a name: {command}")
     if odd := next((word for word in words if not _SHELL.isdisjoint(word) or not word), None):
         raise Refusal(f"Taylor UUCP would give this word to a shell at {job.system}: {odd}")
-    if command == MAIL and (odd := next((word for word in words if word.startswith("-")), None)):
-        raise Refusal(f"{command} at {job.system} would take this address for an option: {odd}")
+    if command == MAIL and (odd := next((word for word in words if f"!{word}".find("!-") >= 0), None)):
+        raise Refusal(f"{command} at {job.system}, or behind it, would take this address for an option: {odd}")
     what = re.escape(" ".join(job.words))
     asker = [f"-a{job.user}"] if _USER.match(job.user) else []
     line = ("-r", "-j", "-z", "-p", f"-g{job.grade}", *asker, "--", f"{job.system}!{command}", *(f"({word})" for word in words))
@@ -89,6 +90,9 @@ def _sending(job: Job, path: str, notify: str) -> Errand:
 
 def _request(job: Job) -> Errand:
     origin, to = (_path(word, job.system) for word in job.words)
+    name = inside(to)
+    if name is None or "/" in name or name == SETTINGS:
+        raise Refusal(f"Taylor UUCP follows links of others, so what it fetches comes to the public folder itself (~/NAME), not to {to}")
     if not frozenset("*?[").isdisjoint(origin):
         raise Refusal(f"one file is fetched at a time, and {origin} may be several")
     line = ("-r", "-j", f"-g{job.grade}", "--", f"{job.system}!{origin}", to)

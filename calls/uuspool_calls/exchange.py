@@ -27,8 +27,9 @@ class NoBundle(NotTaken):
 class Taken:
     """What came of a bundle."""
 
-    def __init__(self, settled: Settled, unpacked: Unpacked, reply: bytes = b"") -> None:
+    def __init__(self, settled: Settled, unpacked: Unpacked, reply: bytes = b"", later: str = "") -> None:
         self.settled, self.unpacked = settled, unpacked
+        self.later = later  # why its jobs aren't taken now
         self.reply = reply  # to a bundle without jobs, if it was made at once
         self.requeued = 0
         self.faults: list[str] = []  # at the neighbour, the last of which counts
@@ -81,14 +82,14 @@ class Neighbour:
         """The bundle that answers the neighbour's. It says what became of each job in that."""
         return self._made(["answer", *self._bound, *options, "--", self._name, *self._onward], text)
 
-    def reply(self, text: bytes) -> bytes:
+    def reply(self, text: bytes, is_taken: bool = True) -> bytes:
         """The bundle that answers a call."""
-        return self._made(*self._reply(text))
+        return self._made(*self._reply(text, is_taken))
 
-    def _reply(self, text: bytes) -> tuple[list[str], bytes]:
+    def _reply(self, text: bytes, is_taken: bool = True) -> tuple[list[str], bytes]:
         """The line for it, and its input. If the caller's has no jobs, ours says all that is here: a call before may have
-        broken, so that the caller doesn't know."""
-        if not bundle.has_jobs(text) and (grade := bundle.grade_wanted(text)):
+        broken, so that the caller doesn't know. If its jobs weren't taken, nothing is said of them."""
+        if not (is_taken and bundle.has_jobs(text)) and (grade := bundle.grade_wanted(text)):
             return ["pack", *self._bound, f"-g{grade}", "--", self._name], b""
         return ["answer", *self._bound, "--", self._name, *self._onward], text
 
@@ -111,11 +112,13 @@ class Neighbour:
     # ---- taking bundles
 
     def take(self, text: bytes, replies: bool = False) -> Taken:
-        """Removes our jobs that a bundle says are there, and then queues its jobs here. On a full disk the
-        first makes room for the second. Then it handles what the neighbour refuses."""
+        """Removes our jobs that a bundle says are there, and then queues its jobs here, unless too many wait. On a full disk
+        the first makes room for the second. Then it handles what the neighbour refuses."""
         try:
             settled = self._site.spool.settle(self._name, text) if bundle.has_line(text, b"has", b"no") else Settled((), ())
-            taken = Taken(settled, *self._unpack(text, replies and not settled.refused))
+            later = self._looks_for_room() if bundle.has_line(text, b"job") else ""
+            unpacked = (Unpacked(0, ()), b"") if later else self._unpack(text, replies and not settled.refused)
+            taken = Taken(settled, *unpacked, later)
         except SpoolError as error:
             kind = NoBundle if any(f"bundle: {name}" in str(error) for name in _NEVER_TAKEN) else NotTaken
             raise kind(self._explained(str(error), text)) from None
@@ -127,22 +130,21 @@ class Neighbour:
 
     def _unpack(self, text: bytes, replies: bool) -> tuple[Unpacked, bytes]:
         """Queues the jobs of a bundle. If it has none, our reply may be made at once."""
-        if bundle.has_line(text, b"job"):
-            self._expect_room()
-        elif replies and (said := self._batch((["unpack", "--", self._name, *self._onward], text), self._reply(text))):
+        if replies and not bundle.has_line(text, b"job") and (said := self._batch((["unpack", "--", self._name, *self._onward], text), self._reply(text))):
             return Unpacked.read(said[0]), said[1]
         return self._site.spool.unpack(self._name, self._onward, text), b""
 
-    def _expect_room(self) -> None:
-        """A neighbour whose jobs wait here in great number brings no more, until some are delivered or gone. (If few jobs
-        waited in all after its last bundle, its own needn't be counted.)"""
+    def _looks_for_room(self) -> str:
+        """Why a neighbour whose jobs wait here in great number brings no more, until some are delivered or gone. (If few
+        jobs waited in all after its last bundle, its own needn't be counted.)"""
         most = self._site.session.setting("UUSPOOL_MOST_WAITING", _MOST_WAITING)
         known = files.read_bytes(self._waits)
         if known is not None and not (known.isdigit() and int(known) < most):
             count = sum(job.sender == self._name for job in self._site.spool.waiting())
             if count >= most:
-                raise NotTaken(f"{count} jobs of {self._name} wait at {self._site.own}, so it takes more later")
+                return f"{count} jobs of {self._name} wait at {self._site.own}, so it takes more later"
         files.touch_if_possible(self._waits)
+        return ""
 
     def _note_waiting(self, queues: bytes) -> None:
         """Keeps how many jobs wait after a bundle. Nothing is there from its unpacking on, and so if a stop comes."""

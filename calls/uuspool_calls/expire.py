@@ -1,9 +1,12 @@
 """uuspool-expire: refuses each job that has waited for a neighbour for so many days. With -w its user gets a
 letter before that, after so many days, that it still waits. The status is 75 if a job can't be refused now, or
-a user can't be told."""
+a user can't be told.
+
+If the clock seems to have jumped since the last run, which would make all jobs old, this run does nothing, and says so
+with the status 75."""
 from collections.abc import Sequence
 
-from . import clock, moves
+from . import clock, files, moves
 from .errors import LATER, USAGE, Failure, spool_needed
 from .jobs import Job
 from .pieces import name_of
@@ -14,6 +17,9 @@ from .texts import is_number
 
 _USAGE = "usage: uuspool-expire [-w DAYS] DAYS"
 _DAY = 86400
+_DRIFT = 3600  # seconds by which a clock may be corrected between two runs
+_GAP = 90 * _DAY  # between two runs, if the machine was started meanwhile
+_LAST = "refused/.expired"  # when the last run was
 
 
 def run(session: Session, words: Sequence[str]) -> int:
@@ -21,6 +27,8 @@ def run(session: Session, words: Sequence[str]) -> int:
     days, warned = _read(words)
     site = enter(session)
     session.processes.catch_stops()
+    if (seconds := _jumped(site)) is not None:
+        raise Failure(LATER, f"the clock jumped by {seconds // _DAY} days since the last run: if it is right now, run this again")
     moves.finish_all(site)
     with spool_needed("the spool cannot be asked what waits"):
         jobs = site.spool.waiting()
@@ -39,6 +47,20 @@ def _read(words: Sequence[str]) -> tuple[int, int | None]:
         case [days] if is_number(days):
             return int(days), None
     raise Failure(USAGE, _USAGE)
+
+
+def _jumped(site: Site) -> int | None:
+    """By how many seconds the clock was set since the last run, if it was. If the machine was started meanwhile, nobody knows
+    how long that took, and only a long time counts."""
+    now, running, boot = clock.now(), clock.running(), clock.boot()
+    last = files.read_record(f"{site.folder}/{_LAST}")
+    with site.writing("refused"):
+        files.write_record(f"{site.folder}/{_LAST}", {"now": now, "running": running, "boot": boot})
+    if not isinstance(last.get("now"), int) or not isinstance(last.get("running"), float):
+        return None
+    runs_on = last.get("boot") == boot
+    jump = now - last["now"] - (int(running - last["running"]) if runs_on else 0)
+    return None if -_DRIFT <= jump <= (_DRIFT if runs_on else _GAP) else jump
 
 
 def older(site: Site, jobs: Sequence[Job], days: int) -> list[Job]:

@@ -178,8 +178,8 @@ class TakeOver:
         jobs = [job for job in taylor.waiting() if not names or job.system in names]
         if jobs:
             self._session.print("What waits in Taylor's spool goes with Taylor's next call. The line below a job queues it here instead:")
-        spool = taylor.spool() if jobs else ""
+        spool, public = (taylor.spool(), taylor.public()) if jobs else ("", "")
         for job in jobs:
-            line = queued_here(spool, self._owner or "uucp", job)
+            line = queued_here(spool, public, self._owner or "uucp", job)
             self._session.print(f"{job.id} {printable(job.user)} {printable(job.what)}")
             self._session.print(f"    {line}" if line else "    (no line can do that: leave it to Taylor)")

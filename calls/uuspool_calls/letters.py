@@ -13,6 +13,7 @@ _FROM = "MAILER-DAEMON"
 _NULL = "<>"  # the sender in the envelope, so that no mailer sends a letter about a letter
 _LIMIT = 60  # seconds for the mailer
 PAUSE = 600  # seconds until a mailer that took no letter is asked again, by what is done each minute
+_MOST_WAITING = 1000  # letters for a neighbour, above which no more are written to it
 _SHOWN_BYTES, _SHOWN_LINES, _SHOWN_JOBS = 2000, 20, 100
 
 
@@ -108,8 +109,11 @@ class Mailroom:
 
     def _queue(self, user: str, text: bytes, key: str) -> bool:
         self._site.will_forget_keys()
-        spool = self._site.spool
+        spool, system = self._site.spool, user.partition("!")[0]
         try:
+            if self._has_many(system):
+                self._site.log.note(system, user, "", "not-told", f"{_MOST_WAITING} letters wait for {system}")
+                return True
             if key:
                 spool.ask(f"--as={_FROM}", "mail", f"--once={key}", "--", user, given=text)
             else:
@@ -117,6 +121,11 @@ class Mailroom:
         except SpoolError:
             return False
         return True
+
+    def _has_many(self, system: str) -> bool:
+        """Whether so many letters wait for a neighbour that it hears of no more jobs, since it may have them made without end."""
+        spool = self._site.spool
+        return spool.queued(system).jobs >= _MOST_WAITING and sum(it.is_letter for it in spool.waiting(system)) >= _MOST_WAITING
 
     def _mail(self, user: str, text: bytes) -> bool:
         words = [self._mailer, "-i", "-f", _NULL, "--", user]

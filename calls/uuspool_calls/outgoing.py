@@ -17,7 +17,7 @@ class Parcelled(NamedTuple):
     system: str
     user: str
     grade: str
-    key: str  # under which it is queued once, if it is one job
+    key: str  # under which it is queued once, if it is one job; or nothing, if whoever asks for it asks again after a stop
     mark: str  # of its pieces, the same if it is queued again after a stop
     words: tuple[str, ...]  # its kind, and the words of that
 
@@ -30,8 +30,11 @@ def queue(site: Site, what: Parcelled, content: int) -> None:
     line = [f"--as={what.user}", "exec", f"-g{what.grade}", "--", what.system]
     if is_plain and os.fstat(content).st_size <= (length or MOST_OF_A_JOB):
         line[1], *words = what.words
-        site.will_forget_keys()
-        site.spool.ask(*line[:3], f"--once={what.key}", *line[3:], *words, given=content)
+        if what.key:
+            site.will_forget_keys()
+            site.spool.ask(*line[:3], f"--once={what.key}", *line[3:], *words, given=content)
+        else:
+            site.spool.ask_once(*line, *words, given=content)
         return
     waiting = {job.words for job in site.spool.waiting(what.system) if job.user == what.user}
     for piece, data in _cut(content, length or SIZE, what):

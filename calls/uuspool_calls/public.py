@@ -348,9 +348,10 @@ def _mark(folder: int) -> None:
 
 
 def _is_marked(folder: int) -> bool:
-    """Whether this is the folder of a neighbour. (Others can't make such a mark.)"""
-    its = look(MARK, folder, follows=False)
-    return its is not None and its.st_uid in (os.geteuid(), 0)
+    """Whether this is the folder of a neighbour. (Others can't make such a mark, but Taylor UUCP brings one into a folder
+    that others may write.)"""
+    its, seen, owners = look(MARK, folder, follows=False), os.fstat(folder), (os.geteuid(), 0)
+    return its is not None and its.st_uid in owners and seen.st_uid in owners and not seen.st_mode & 0o022
 
 
 def _is_neighbours(top: int, name: str) -> bool:

@@ -60,11 +60,8 @@ class Session:
         return max(1, self.setting("UUSPOOL_AT_ONCE", 8))
 
     def finds(self, program: str, more: str = "") -> bool:
-        """Whether a program is there, by its path or in one of the folders of PATH and these. (The module shutil
-        takes long to load.)"""
-        folders = [""] if "/" in program else (self.environment.get("PATH", "") + more).split(":")
-        paths = [os.path.join(folder, program) for folder in folders] if program else []
-        return any(os.path.isfile(path) and os.access(path, os.X_OK) for path in paths)
+        """Whether a program is there, by its path or in one of the folders of PATH and these."""
+        return is_program(program, (self.environment.get("PATH", "") + more).split(":"))
 
     def run_as(self, owner: str, words: Sequence[str], given: bytes | int = b"", joined: bool = False) -> Ended:
         """Runs a program as this user, in the present folder. The terminal of root, who may run this, isn't its
@@ -84,6 +81,12 @@ class Session:
             return os.access(path, mode)
         letter = {os.R_OK: "-r", os.W_OK: "-w", os.X_OK: "-x"}[mode]
         return self.run_as(owner, ["test", letter, path]).status == 0
+
+
+def is_program(name: str, folders: Sequence[str]) -> bool:
+    """Whether a program is there, by its path or in one of these folders. (The module shutil takes long to load.)"""
+    paths = [name] if "/" in name else [os.path.join(folder, name) for folder in folders if name]
+    return any(os.path.isfile(path) and os.access(path, os.X_OK) for path in paths)
 
 
 def user_name(number: int) -> str:

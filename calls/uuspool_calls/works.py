@@ -3,9 +3,9 @@ began. No clock that somebody sets has a part in it."""
 import contextlib
 import os
 
+from . import clock
 from .files import opened, read_bytes, write_all
 
-_BOOT = "/proc/sys/kernel/random/boot_id"
 _BEGUN = 19  # the place of the time behind the name of the process
 
 
@@ -25,4 +25,4 @@ def _begun(process: int) -> bytes:
     """In which boot a process began, and when. Nothing if it is gone, or has ended and wasn't waited for yet."""
     name, _, rest = (read_bytes(f"/proc/{process}/stat") or b"").rpartition(b") ")
     fields = rest.split()
-    return (read_bytes(_BOOT) or b"") + fields[_BEGUN] if name and fields[0] not in (b"Z", b"X") else b""
+    return clock.boot().encode() + b" " + fields[_BEGUN] if name and fields[0] not in (b"Z", b"X") else b""
