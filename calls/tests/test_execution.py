@@ -42,9 +42,9 @@ class Executions(Folder):
         with reading(self.put("D.0001", data)), mock.patch.object(self.spool, "ask", self.ask):
             self.assertEqual(0, execution.run(session, words))
 
-    def fail(self, status: int, **changes: str) -> None:
+    def fail(self, status: int, word: str = "bob", **changes: str) -> None:
         with self.assertRaises(Failure) as raised:
-            self.rmail("bob", **changes)
+            self.rmail("eve", word, **changes)
         self.assertEqual(status, raised.exception.status, changes)
 
     def test_it_is_a_job_of_the_neighbours_user(self) -> None:
@@ -71,5 +71,7 @@ class Executions(Folder):
                 self.fail(ended)
         for machine in "", "..", "-x", "a b", "a/b":
             self.fail(64, machine=machine)
+        for word in "b\udce9b", "b\x01b", "", "x" * 256, "a b":
+            self.fail(69, word=word)
         self.entered.side_effect = Failure(78, "no settings")
         self.fail(75)
