@@ -29,6 +29,8 @@ class Executions(Folder):
         super().setUp()
         self.spool = StandIn()
         self.entered = mock.Mock(return_value=site(self.folder, self.spool))
+        self.session = Quiet(self.folder)
+        self.session.command = "rmail"
         self.lines: list[tuple[str, ...]] = []
         self.enterContext(mock.patch.object(execution, "enter", self.entered))
 
@@ -37,10 +39,9 @@ class Executions(Folder):
         return ""
 
     def rmail(self, *words: str, data: bytes = b"hello", machine: str = "unc", user: str = "joe") -> None:
-        session = Quiet(self.folder, UU_MACHINE=machine, UU_USER=user)
-        session.command = "rmail"
+        self.session.environment |= {"UU_MACHINE": machine, "UU_USER": user}
         with reading(self.put("D.0001", data)), mock.patch.object(self.spool, "ask", self.ask):
-            self.assertEqual(0, execution.run(session, words))
+            self.assertEqual(0, execution.run(self.session, words))
 
     def fail(self, status: int, word: str = "bob", **changes: str) -> None:
         with self.assertRaises(Failure) as raised:

@@ -8,7 +8,7 @@ from .errors import Refusal
 from .jobs import MAIL, REQUEST, Job, Wishes
 from .texts import is_name
 from .pieces import COMMAND
-from .public import SETTINGS, inside
+from .public import SETTINGS
 from .values import NamedTuple
 
 _ANSWER = "uuspool-answer"  # takes a bundle
@@ -90,9 +90,8 @@ def _sending(job: Job, path: str, notify: str) -> Errand:
 
 def _request(job: Job) -> Errand:
     origin, to = (_path(word, job.system) for word in job.words)
-    name = inside(to)
-    if name is None or "/" in name or name == SETTINGS:
-        raise Refusal(f"Taylor UUCP follows links of others, so what it fetches comes to the public folder itself (~/NAME), not to {to}")
+    if SETTINGS in (origin.rpartition("/")[2], to.rpartition("/")[2]):
+        raise Refusal(f"no file {SETTINGS} comes here, because whoever works in its folder would go by it")
     if not frozenset("*?[").isdisjoint(origin):
         raise Refusal(f"one file is fetched at a time, and {origin} may be several")
     line = ("-r", "-j", f"-g{job.grade}", "--", f"{job.system}!{origin}", to)

@@ -115,8 +115,9 @@ class Neighbour:
         """Removes our jobs that a bundle says are there, and then queues its jobs here, unless too many wait. On a full disk
         the first makes room for the second. Then it handles what the neighbour refuses."""
         try:
-            settled = self._site.spool.settle(self._name, text) if bundle.has_line(text, b"has", b"no") else Settled((), ())
             later = self._looks_for_room() if bundle.has_line(text, b"job") else ""
+            says = later or bundle.has_line(text, b"has", b"no")  # (or its sender is looked at, before it is answered)
+            settled = self._site.spool.settle(self._name, text) if says else Settled((), ())
             unpacked = (Unpacked(0, ()), b"") if later else self._unpack(text, replies and not settled.refused)
             taken = Taken(settled, *unpacked, later)
         except SpoolError as error:

@@ -11,7 +11,7 @@ from . import files
 from .carriers import NO_CALL, entry_of
 from .errors import NOT_SET_UP, USAGE, Failure
 from .session import Session
-from .site import find_from_anywhere
+from .site import find_from_anywhere, owner_of
 from .taylor import Taylor
 from .taylorsys import Line, SysFile, System, lines_in, queued_here
 from .texts import printable
@@ -174,12 +174,12 @@ class TakeOver:
 
     def tell_waiting(self, names: Sequence[str]) -> None:
         """Prints what waits in Taylor's spool, and how each job would be queued here."""
-        taylor = Taylor(self._session)
+        taylor = Taylor(self._session, owner=self._owner or owner_of(find_from_anywhere(self._session)))
         jobs = [job for job in taylor.waiting() if not names or job.system in names]
         if jobs:
             self._session.print("What waits in Taylor's spool goes with Taylor's next call. The line below a job queues it here instead:")
-        spool, public = (taylor.spool(), taylor.public()) if jobs else ("", "")
+        spool = taylor.spool() if jobs else ""
         for job in jobs:
-            line = queued_here(spool, public, self._owner or "uucp", job)
+            line = queued_here(spool, self._owner or "uucp", job)
             self._session.print(f"{job.id} {printable(job.user)} {printable(job.what)}")
             self._session.print(f"    {line}" if line else "    (no line can do that: leave it to Taylor)")

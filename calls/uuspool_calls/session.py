@@ -66,10 +66,14 @@ class Session:
     def run_as(self, owner: str, words: Sequence[str], given: bytes | int = b"", joined: bool = False) -> Ended:
         """Runs a program as this user, in the present folder. The terminal of root, who may run this, isn't its
         own, because whatever else this user runs could type there."""
-        environment = self.environment
-        if owner != user_name(os.geteuid()):
-            words, environment = ["setsid", "-w", "runuser", "-u", owner, "--", *words], self.passed()
+        words, environment = self.acting(owner, words)
         return self.processes.run(Program(words, "", environment), given, joined=joined)
+
+    def acting(self, owner: str, words: Sequence[str]) -> tuple[Sequence[str], Mapping[str, str]]:
+        """The words by which this user runs a program, and its environment."""
+        if owner == user_name(os.geteuid()):
+            return words, self.environment
+        return ["setsid", "-w", "runuser", "-u", owner, "--", *words], self.passed()
 
     def passed(self) -> dict[str, str]:
         """What another user gets of root's environment, which may have passwords."""

@@ -152,17 +152,17 @@ def lines_in(text: str) -> Iterator[Line]:
 # ---- what waits in Taylor's spool
 
 
-def queued_here(spool: str, public: str, owner: str, job: Waiting) -> str:
+def queued_here(spool: str, owner: str, job: Waiting) -> str:
     """The line of a shell that queues a job of Taylor's spool here, and takes it out there. Nothing if no line does. root
     types it, so the spool's user opens the file of the bytes, which is Taylor's copy. (A file that Taylor didn't copy is its
-    sender's, who may put a link there.) What is fetched to Taylor's public folder comes to this site's."""
+    sender's, who may put a link there.)"""
     gap = f"{job.system}."
     if not is_name(job.system) or not is_name(job.id) or not job.id.startswith(gap):
         return ""
     text = files.read_bytes(f"{spool}/{job.system}/C./C.{job.id.removeprefix(gap)}") or b""
     lines = text.decode(errors="surrogateescape").splitlines()
     words = lines[0].split(" ") if len(lines) == 1 else []
-    queued, data = _task(words, public)
+    queued, data = _task(words)
     if not queued:
         return ""
     grade = job.id.removeprefix(gap)[:1]
@@ -173,15 +173,14 @@ def queued_here(spool: str, public: str, owner: str, job: Waiting) -> str:
     return f"runuser -u {_quoted(owner)} -- {' '.join(map(_quoted, line))} && uustat -k {_quoted(job.id)}"
 
 
-def _task(words: Sequence[str], public: str) -> tuple[list[str], str]:
+def _task(words: Sequence[str]) -> tuple[list[str], str]:
     """The kind and the words of a job here, and the file of its bytes, for a line of Taylor's."""
     if words[:1] == ["E"] and len(words) > 9 and is_name(words[5]):
         return ["exec", *words[9:]], words[5]
     if words[:1] == ["S"] and len(words) > 6 and not words[2].startswith(("X.", "D.")) and "C" in words[4] and is_name(words[5]):
         return ["send", words[1], words[2]], words[5]
     if words[:1] == ["R"] and len(words) > 4:
-        to = words[2]
-        return ["request", words[1], f"~{to.removeprefix(public)}" if public and to.startswith(f"{public}/") else to], ""
+        return ["request", words[1], words[2]], ""
     return [], ""
 
 
