@@ -18,5 +18,6 @@ From below, each importing only what stands before it (`calls/tests/test_layers.
     taylor taylorsys taylorcheck wholes errands handover  Taylor UUCP, and the jobs that it has
     delivery carriers outgoing              how a job is delivered, a neighbour called, and a file queued
     traffic progress forecast               how much a call carries, and how fast
+    executions                              what Taylor UUCP brings
     cli, and then the commands
 """

@@ -282,6 +282,10 @@ class Call:
             self._progress.end(self._traffic)
         for line in lines_of(ended.errors)[:_MOST_LINES]:
             self._site.log.note(self._order.neighbour, "", "", "says", plain(line.strip()))
+        if self._carrier.is_taylors(self._site.session):
+            from . import executions  # (which no other call needs)
+
+            executions.take_all(self._site)
         return ended, over >= self._ends
 
     def _explained(self, ended: Ended) -> str:
@@ -332,7 +336,7 @@ class Call:
 
 class JobCall(Call):
     """A call of a neighbour that has Taylor UUCP alone. Taylor gets the jobs themselves, and calls, now or by its own
-    schedule. (What comes, Taylor gives to `rmail` and the public folder.)"""
+    schedule."""
 
     def __init__(self, site: Site, order: Order, carrier: carriers.Carrier) -> None:
         super().__init__(site, order, carrier)

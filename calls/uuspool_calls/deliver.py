@@ -1,5 +1,5 @@
 """uuspool-deliver: delivers the jobs that wait for this site itself, each on its own, or tries those with
-these numbers now.
+these numbers now. What neighbours brought by Taylor UUCP is queued first.
 
 One round goes on at a time, and begins nothing more after some minutes. The senders take turns in it, so who sends
 many jobs delays no other. The next round waits for no command that takes longer than usual, and has fewer places
@@ -15,7 +15,7 @@ import time
 from collections.abc import Sequence
 from functools import partial
 
-from . import cli, clock, files, outgoing, pieces, records, refusals, works
+from . import cli, clock, executions, files, outgoing, pieces, records, refusals, works
 from .delivery import Delivery, Outcome
 from .errors import LATER, USAGE, Delay, Failure, Refusal, SpoolError, spool_needed
 from .jobs import REQUEST, Delivered, Job, Parcel
@@ -46,6 +46,7 @@ def run(session: Session, words: Sequence[str]) -> int:
     session.processes.catch_stops()
     if words:
         return max(deliverer.run(session, words), refusals.tell(site))
+    executions.take_all(site)
     with site.lock("deliver/round.lock") as lock:
         return _round(site, deliverer, lock) if lock.take() else 0
 

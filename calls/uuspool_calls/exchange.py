@@ -86,6 +86,15 @@ class Neighbour:
         """The bundle that answers a call."""
         return self._made(*self._reply(text, is_taken))
 
+    def reply_to(self, text: bytes, taken: Taken) -> bytes:
+        """The bundle that answers a call, of which the caller's was taken. Before this, what the caller says that it has is
+        settled. Otherwise it would get it again."""
+        if finish_moves(self._site, self._name):
+            taken.reply = b""
+        settled, jobs = len(taken.settled.done), taken.unpacked.jobs
+        self._site.log.note(self._name, "", "", "answered", f"{jobs} jobs came, {settled} of ours are there")
+        return taken.reply or self.reply(text, is_taken=not taken.later)
+
     def _reply(self, text: bytes, is_taken: bool = True) -> tuple[list[str], bytes]:
         """The line for it, and its input. If the caller's has no jobs, ours says all that is here: a call before may have
         broken, so that the caller doesn't know. If its jobs weren't taken, nothing is said of them."""
@@ -138,14 +147,19 @@ class Neighbour:
     def _looks_for_room(self) -> str:
         """Why a neighbour whose jobs wait here in great number brings no more, until some are delivered or gone. (If few
         jobs waited in all after its last bundle, its own needn't be counted.)"""
-        most = self._site.session.setting("UUSPOOL_MOST_WAITING", _MOST_WAITING)
         known = files.read_bytes(self._waits)
-        if known is not None and not (known.isdigit() and int(known) < most):
-            count = sum(job.sender == self._name for job in self._site.spool.waiting())
-            if count >= most:
-                return f"{count} jobs of {self._name} wait at {self._site.own}, so it takes more later"
+        if known is not None and not (known.isdigit() and int(known) < self._most_waiting) and self.room() <= 0:
+            return f"{self._most_waiting} jobs of {self._name} wait at {self._site.own}, so it takes more later"
         files.touch_if_possible(self._waits)
         return ""
+
+    def room(self) -> int:
+        """How many more jobs of the neighbour may wait here. (One bundle may have brought more than that, so it may be less than none.)"""
+        return self._most_waiting - sum(job.sender == self._name for job in self._site.spool.waiting())
+
+    @property
+    def _most_waiting(self) -> int:
+        return self._site.session.setting("UUSPOOL_MOST_WAITING", _MOST_WAITING)
 
     def _note_waiting(self, queues: bytes) -> None:
         """Keeps how many jobs wait after a bundle. Nothing is there from its unpacking on, and so if a stop comes."""

@@ -24,12 +24,13 @@ _LOST = {
     "alias": "addresses with this name find no system here",
     "call-timegrade": "a call asks for the grades of its own time lines",
     "called-timegrade": "who calls gets all grades",
-}
-_LOST_BY_BUNDLES = {
-    "commands": "/etc/uuspool/commands says what neighbours may run, and here Taylor needs commands uuspool-answer",
+    "commands": "/etc/uuspool/commands says what neighbours may run",
+    "command-path": "/etc/uuspool/commands says where programs are",
     "forward": "/etc/uuspool/forward says whose mail is handed on",
     "forward-to": "/etc/uuspool/forward says whose mail is handed on",
     "forward-from": "/etc/uuspool/forward says whose mail is handed on",
+}
+_LOST_BY_BUNDLES = {
     "local-send": "any file of a user goes that he may read",
     "local-receive": "files come to the public folder alone",
     "remote-send": "neighbours fetch from the public folder alone",
@@ -37,7 +38,6 @@ _LOST_BY_BUNDLES = {
     "pubdir": "/etc/uuspool/public says where files of neighbours come",
     "myname": "bundles have this site's one name",
 }
-_BESIDE_BUNDLES = frozenset(["command-path"])  # says where uuspool-answer is
 _WHOLE_DAY = re.compile(r"(\d{4})-\1")
 _NO_LIMIT = "1000000"  # the most that a sys file may have
 
@@ -131,7 +131,7 @@ def _why_lost(line: Line, by_bundles: bool) -> str:
         return "hours from a minute to the same one are that minute here, and the whole day in Taylor UUCP"
     if line.keyword in _LOST_BY_BUNDLES:
         return _LOST_BY_BUNDLES[line.keyword] if by_bundles else ""
-    known = line.keyword in _STAY or line.keyword in _BESIDE_BUNDLES or line.keyword in _OURS or _CHAT.match(line.keyword)
+    known = line.keyword in _STAY or line.keyword in _OURS or _CHAT.match(line.keyword)
     return "" if known else "Taylor UUCP has no such keyword"
 
 

@@ -64,6 +64,10 @@ class Carrier(NamedTuple):
         """Whether the neighbour answers within the call."""
         return self.kind(session) not in ("folder", "uucico", "taylor")
 
+    def is_taylors(self, session: Session) -> bool:
+        """Whether Taylor UUCP makes the calls, and so brings executions."""
+        return self.kind(session) in ("uucico", "taylor")
+
     def hands_jobs(self, session: Session) -> bool:
         """Whether Taylor UUCP gets the jobs themselves, and no bundles go."""
         return self.kind(session) == "taylor"
