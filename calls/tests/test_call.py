@@ -1,16 +1,13 @@
 """Calls and answers, with a carrier and a spool that do what a table says."""
-import json
 import os
 import re
 from contextlib import suppress
 from unittest import mock
 
-from uuspool_calls import call, carriers, clock, forecast
-from uuspool_calls.answer import _needs_answer
+from uuspool_calls import call, carriers, clock, executions, forecast
 from uuspool_calls.errors import Failure, SpoolError, Stopped
-from uuspool_calls.exchange import Taken
 from uuspool_calls.processes import Ended, Program, Watch
-from uuspool_calls.spool import Due, Refused, Settled, Unpacked
+from uuspool_calls.spool import Due, Settled, Unpacked
 
 from .standins import LINE, Folder, Mailer, StandIn, parcel, site
 
@@ -225,6 +222,16 @@ class Calls(Folder):
             self.make([JOB], Ended(127, b"", b"no such file\n"))
         self.assertEqual((78, ["pack"]), (raised.exception.status, [words[0] for words in self.spool.asked]))
 
+    def test_what_taylor_uucp_brings_is_taken_after_each_call_by_it(self) -> None:
+        for name, count in ("uucico", 1), ("taylor", 1), ("ssh", 0), ("folder", 0):
+            self.put(f"lib/uuspool/carriers/{name}", "", 0o755)
+            self.carrier = self.carrier._replace(program=f"{self.folder}/lib/uuspool/carriers/{name}")
+            for ended in Ended(0, b"", b""), Ended(1, b"", b"the line fell"):
+                self.site.session.processes = Wire(ended)
+                with mock.patch.object(executions, "take_all") as takes:
+                    call.Call(self.site, self.order, self.carrier)._carry(b"")
+                self.assertEqual([mock.call(self.site)] * count, takes.call_args_list, name)
+
     def test_no_answer_counts_as_done(self) -> None:
         self.make([JOB], b"")
         self.assertEqual(("done", "duke"), self.spool.asked[-1])
@@ -318,13 +325,3 @@ class Forecasts(Folder):
         with self.assertRaisesRegex(Failure, "no readable file .*/etc/calls/duke says how to call duke") as raised:
             self.told()
         self.assertEqual((78, []), (raised.exception.status, self.site.log))
-
-
-class Answers(Folder):
-    def test_by_taylor_uucp(self) -> None:
-        refused = (Refused(1, "Differs"),)
-        for settled, unpacked, needs in (
-            ((), Unpacked(1, ()), True), ((), Unpacked(0, ()), False), ((), Unpacked(0, ("Differs",)), True), (refused, Unpacked(0, ("Differs",)), False),
-            ((), Unpacked(0, ("NoSystem",)), False),
-        ):  # fmt: skip
-            self.assertEqual(needs, _needs_answer(Taken(Settled((), settled), unpacked)), json.dumps(unpacked))
