@@ -300,8 +300,9 @@ class Small(Folder):
         here = site(self.folder, StandIn())
         hour, day = 3600, 86400
         for now, running, boot, jump in (
-            (0, 0, "a", None), (day, day, "a", None), (2 * day + hour, 2 * day, "a", None), (33 * day, 3 * day, "a", 29 * day + day - hour), (34 * day, 4 * day, "a", None),
-            (4 * day, 5 * day, "a", -31 * day), (5 * day, 6 * day, "a", None), (95 * day, 1, "b", None), (186 * day, 1, "c", 91 * day), (100 * day, 1, "d", -86 * day), (101 * day, 1, "e", None),
+            (0, 0, "a", None), (day, day, "a", None), (3 * day, 2 * day, "a", None), (33 * day + hour, 3 * day, "a", 29 * day + hour), (34 * day, 4 * day, "a", None),
+            (36 * day + 1, 5 * day, "a", day + 1), (35 * day, 5 * day, "a", -day - 1), (34 * day, 5 * day, "a", None),
+            (4 * day, 5 * day, "a", -30 * day), (5 * day, 6 * day, "a", None), (95 * day, 1, "b", None), (186 * day, 1, "c", 91 * day), (100 * day, 1, "d", -86 * day), (101 * day, 1, "e", None),
         ):  # fmt: skip
             with mock.patch.multiple("uuspool_calls.clock", now=lambda: int(2e9) + now, running=lambda: float(running), boot=lambda: boot):
                 self.assertEqual(jump, expire._jumped(here), (now, running, boot))

@@ -17,7 +17,7 @@ from .texts import is_number
 
 _USAGE = "usage: uuspool-expire [-w DAYS] DAYS"
 _DAY = 86400
-_DRIFT = 3600  # seconds by which a clock may be corrected between two runs
+_DRIFT = _DAY  # by which a clock may be corrected between two runs, as that of a machine that is paused for the night
 _GAP = 90 * _DAY  # between two runs, if the machine was started meanwhile
 _LAST = "refused/.expired"  # when the last run was
 
