@@ -83,6 +83,7 @@ class StandIn:
         self.unpacked = Unpacked(0, ())
         self.bundles: list[Ended] = []
         self.dues: list[Due] = []
+        self.undefined: set[str] = set()
         self.next = 100
         self.open: Callable[[int], bool] = lambda moment: True
 
@@ -107,6 +108,9 @@ class StandIn:
     def is_open(self, system: str, moment: int) -> bool:
         self._note("when", system)
         return self.open(moment)
+
+    def systems(self, system: str = "") -> str:
+        return "" if system in self.undefined else f"system {system}\ntime any\n"
 
     def show(self, number: int) -> Parcel | None:
         return self.parcels.get(number)

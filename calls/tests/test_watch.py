@@ -1,6 +1,7 @@
 """Figures of a site, what a monitor says of them, and what a check finds."""
 import os
 import pwd
+import re
 import time
 from unittest import mock
 
@@ -152,6 +153,14 @@ class Checked(Folder):
         self.check._check_failures()
         (line,) = self.said
         self.assertRegex(line, "^12 calls of duke failed in a row, the last one at 2026-11-28 10:00:00: no-|-carrier: uuspool-log -s duke")
+
+    def test_su(self) -> None:
+        line = "auth requisite pam_succeed_if.so quiet user notingroup root"
+        for logins, text, found in (["root"], "auth sufficient pam_rootok.so\n", 1), (["root"], f"# {line}\n", 1), (["root"], f"x\n{line}\n", 0), ([], "", 0):
+            self.said.clear()
+            with mock.patch.object(check, "_logins", return_value=logins):
+                self.check._check_su(self.put("su", text))
+            self.assertEqual([f"add the line '{line}' to {self.folder}/su"] * found, re.findall("add the line .* to [^,]*", "".join(self.said)))
 
     def test_clocks(self) -> None:
         for zone, machine, found in ("UTC0", "UTC0", 0), ("<site>-1:0", "CET-1CEST,M3.5.0,M10.5.0/3", 1), ("CET-1CEST,M3.5.0,M10.5.0/3", "CET-1CEST,M3.5.0,M10.5.0/3", 0):
