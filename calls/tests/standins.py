@@ -23,6 +23,15 @@ def parcel(line: str = LINE, data: bytes = b"hello") -> Parcel:
     return Parcel.read(line.encode() + b"\n" + data)
 
 
+_PIPE = os.pipe2(os.O_CLOEXEC | os.O_NONBLOCK)  # of all that run nothing
+
+
+def close_pipe(processes: Processes) -> None:
+    """Closes what wakes these. (select takes no more than 1,024 open files of all tests.)"""
+    for handle in processes._wake, processes._waker:
+        os.close(handle)
+
+
 class Folder(unittest.TestCase):
     """A test with a folder of its own."""
 
@@ -164,6 +173,8 @@ class Mailer(Processes):
 
     def __init__(self, status: int = 0) -> None:
         super().__init__()
+        close_pipe(self)
+        self._wake, self._waker = _PIPE
         self.status, self.ran = status, []
 
     def run(self, program, given=b"", joined=False, watch=None):  # type: ignore[no-untyped-def]
@@ -178,8 +189,7 @@ def site(folder: str, spool: StandIn, **variables: str) -> Site:
     with open(f"{folder}/spool.db-word", "w", encoding="ascii") as file:
         file.write("w1\n")
     session = Quiet(folder, **variables)
-    for handle in session.processes._wake, session.processes._waker:
-        os.close(handle)  # (select takes no more than 1,024 of all tests)
+    close_pipe(session.processes)
     session.processes = Mailer()
     made = Site(session, Settings("mysite", f"{folder}/uuspool.toml", folder, f"{folder}/spool.db", f"{folder}/log", "UTC0"))
     made.spool, made.log = spool, Log()  # type: ignore[assignment]
