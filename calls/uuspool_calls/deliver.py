@@ -31,6 +31,7 @@ _KILLED = 128  # the least status of a process that a signal ended
 _NEW = 3600  # seconds in which a record's job may have just come
 _LOCK, _WORKS = ".lock", ".works"  # of a job, behind its number
 _MARGIN = 15  # seconds until a command that is ended has ended
+_TAKING = 30  # seconds for which a round waits for what neighbours brought
 _ROUND = 300  # seconds after which a round begins no more deliveries
 _MOST_FETCHED = 64  # MiB that wait for a neighbour, above which it fetches nothing more
 _MOST_JOBS = 5000  # that wait for it
@@ -46,9 +47,37 @@ def run(session: Session, words: Sequence[str]) -> int:
     session.processes.catch_stops()
     if words:
         return max(deliverer.run(session, words), refusals.tell(site))
-    executions.take_all(site)
-    with site.lock("deliver/round.lock") as lock:
-        return _round(site, deliverer, lock) if lock.take() else 0
+    with Children(session.processes, session.at_once) as taking:
+        _take_executions(site, taking)
+        with site.lock("deliver/round.lock") as lock:
+            status = _round(site, deliverer, lock) if lock.take() else 0
+        taking.wait()
+    return status
+
+
+def _take_executions(site: Site, children: Children) -> None:
+    """Queues what neighbours brought by Taylor UUCP. Each has a process of its own, so who brings much delays no other, and
+    what takes long goes on beside the round."""
+    ends = clock.running() + _TAKING
+    for name in executions.neighbours(site):
+        if not children.has_place(ends - clock.running()):
+            break
+        children.start(partial(_taking, site, name))
+    children.wait(ends - clock.running())
+
+
+def _taking(site: Site, neighbour: str) -> Child:
+    def work() -> int:
+        named(site.session.command)
+        site.session.processes.begin_as_child()
+        return cli.run(site.session, partial(_take, site), [neighbour])
+
+    return Child(work)
+
+
+def _take(site: Site, session: Session, words: Sequence[str]) -> int:
+    executions.take_of(site, words[0])
+    return 0
 
 
 def _round(site: Site, deliverer: "Deliverer", lock: files.Lock) -> int:

@@ -148,17 +148,18 @@ class Neighbour:
         """Why a neighbour whose jobs wait here in great number brings no more, until some are delivered or gone. (If few
         jobs waited in all after its last bundle, its own needn't be counted.)"""
         known = files.read_bytes(self._waits)
-        if known is not None and not (known.isdigit() and int(known) < self._most_waiting) and self.room() <= 0:
-            return f"{self._most_waiting} jobs of {self._name} wait at {self._site.own}, so it takes more later"
+        if known is not None and not (known.isdigit() and int(known) < self.most_waiting) and self.room() <= 0:
+            return f"{self.most_waiting} jobs of {self._name} wait at {self._site.own}, so it takes more later"
         files.touch_if_possible(self._waits)
         return ""
 
     def room(self) -> int:
         """How many more jobs of the neighbour may wait here. (One bundle may have brought more than that, so it may be less than none.)"""
-        return self._most_waiting - sum(job.sender == self._name for job in self._site.spool.waiting())
+        return self.most_waiting - sum(job.sender == self._name for job in self._site.spool.waiting())
 
     @property
-    def _most_waiting(self) -> int:
+    def most_waiting(self) -> int:
+        """How many jobs of the neighbour may wait here."""
         return self._site.session.setting("UUSPOOL_MOST_WAITING", _MOST_WAITING)
 
     def _note_waiting(self, queues: bytes) -> None:
