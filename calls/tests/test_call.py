@@ -228,9 +228,9 @@ class Calls(Folder):
             self.carrier = self.carrier._replace(program=f"{self.folder}/lib/uuspool/carriers/{name}")
             for ended in Ended(0, b"", b""), Ended(1, b"", b"the line fell"):
                 self.site.session.processes = Wire(ended)
-                with mock.patch.object(executions, "take_all") as takes:
+                with mock.patch.object(executions, "take_of") as takes:
                     call.Call(self.site, self.order, self.carrier)._carry(b"")
-                self.assertEqual([mock.call(self.site)] * count, takes.call_args_list, name)
+                self.assertEqual([mock.call(self.site, "duke")] * count, takes.call_args_list, name)
 
     def test_no_answer_counts_as_done(self) -> None:
         self.make([JOB], b"")

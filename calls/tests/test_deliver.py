@@ -5,12 +5,13 @@ import time
 from functools import partial
 from unittest import mock
 
-from uuspool_calls import commands, deliver, records, works
+from uuspool_calls import commands, deliver, executions, records, works
 from uuspool_calls.errors import Delay, Refusal
 from uuspool_calls.files import Lock, memory_file
 from uuspool_calls.jobs import Job
-from uuspool_calls.processes import Child, Program
+from uuspool_calls.processes import Child, Children, Program
 from uuspool_calls.session import Session
+from uuspool_calls.site import Site
 
 from .standins import LINE, Folder, StandIn, parcel, site
 
@@ -101,6 +102,39 @@ class Records(Folder):
         users = ["unc!a", "unc!b", "duke!c", "unc!d", "ann", "duke!e"]
         jobs = [Job.read(LINE.replace("7", str(at), 1).replace("ann", user)) for at, user in enumerate(users)]
         self.assertEqual([0, 2, 4, 1, 5, 3], [it.number for it in deliver.by_turns(jobs)])
+
+
+class Brought(Folder):
+    """What neighbours brought by Taylor UUCP."""
+
+    def setUp(self) -> None:
+        super().setUp()
+        self.site = site(self.folder, StandIn())
+        self.put("taken/none")
+
+    def take(self, site: Site, neighbour: str) -> None:
+        if neighbour == "slow":
+            site.session.processes.pause(20)
+        self.put(f"taken/{neighbour}")
+
+    def begin(self, names: list[str], at_once: int, seconds: int) -> list[str]:
+        """What was taken once these have begun, so many at a time."""
+        with Children(self.site.session.processes, at_once) as children:
+            patched = mock.patch.multiple(executions, neighbours=lambda site: names, take_of=self.take)
+            with patched, mock.patch.object(deliver, "_TAKING", seconds):
+                deliver._take_executions(self.site, children)
+            taken = sorted(os.listdir(f"{self.folder}/taken"))
+            children._end_all()
+        return taken
+
+    def test_who_brings_much_delays_no_other(self) -> None:
+        self.assertEqual(["a", "b", "c", "none"], self.begin(["a", "slow", "b", "c"], 2, 2))
+
+    def test_a_round_waits_no_longer_for_them(self) -> None:
+        begun = time.monotonic()
+        self.assertEqual(["none"], self.begin(["slow", "a"], 1, 1))
+        self.assertLess(time.monotonic() - begun, 10)
+        self.assertEqual(["a", "b", "none"], self.begin(["a", "b"], 1, 10))
 
 
 class Rounds(Folder):
