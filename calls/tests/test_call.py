@@ -232,6 +232,12 @@ class Calls(Folder):
                     call.Call(self.site, self.order, self.carrier)._carry(b"")
                 self.assertEqual([mock.call(self.site, "duke")] * count, takes.call_args_list, name)
 
+    def test_a_call_was_made_though_nobody_takes_what_taylor_uucp_brought(self) -> None:
+        self.carrier = self.carrier._replace(program=self.put("lib/uuspool/carriers/uucico", "", 0o755))
+        with mock.patch.object(executions, "take_of", side_effect=Failure(75, "cannot write below /x: No space left on device")):
+            self.make([JOB, NOTHING], b"")
+        self.assertEqual(("done", "duke"), self.spool.asked[-1])
+
     def test_no_answer_counts_as_done(self) -> None:
         self.make([JOB], b"")
         self.assertEqual(("done", "duke"), self.spool.asked[-1])

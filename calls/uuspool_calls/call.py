@@ -285,7 +285,8 @@ class Call:
         if self._carrier.is_taylors(self._site.session):
             from . import executions  # (which no other call needs)
 
-            executions.take_of(self._site, self._order.neighbour)
+            with suppress(Failure):  # (the next round of deliveries takes it, or says why not)
+                executions.take_of(self._site, self._order.neighbour)
         return ended, over >= self._ends
 
     def _explained(self, ended: Ended) -> str:
