@@ -4,7 +4,7 @@ import re
 from contextlib import suppress
 from unittest import mock
 
-from uuspool_calls import call, carriers, clock, executions, forecast
+from uuspool_calls import answer, call, carriers, clock, executions, forecast
 from uuspool_calls.errors import Failure, SpoolError, Stopped
 from uuspool_calls.processes import Ended, Program, Watch
 from uuspool_calls.spool import Due, Settled, Unpacked
@@ -331,3 +331,15 @@ class Forecasts(Folder):
         with self.assertRaisesRegex(Failure, "no readable file .*/etc/calls/duke says how to call duke") as raised:
             self.told()
         self.assertEqual((78, []), (raised.exception.status, self.site.log))
+
+
+class Answers(Folder):
+    def test_its_words_alone_say_who_calls(self) -> None:
+        """(Taylor's uuxqt would say it by a variable, and nobody runs that.)"""
+        made = site(self.folder, StandIn(), UU_MACHINE="unc", UU_USER="joe")
+        with mock.patch.object(answer, "enter", return_value=made), mock.patch.object(answer, "_answer") as answered:
+            with self.assertRaisesRegex(Failure, "^usage: ") as raised:
+                answer.run(made.session, [])
+            self.assertEqual((64, []), (raised.exception.status, answered.call_args_list))
+            self.assertEqual(0, answer.run(made.session, ["duke", "phs"]))
+        self.assertEqual([("duke", ["phs"])], [it.args[2:] for it in answered.call_args_list])
