@@ -38,7 +38,8 @@ class Letter(NamedTuple):
             "",
             self.why,
             "",
-            f"It was queued at {own} on {job.day} at {job.hour} as job {job.number}." + (" It begins:" if data else ""),
+            f"It {'was queued at' if job.number else 'came to'} {own} on {job.day} at {job.hour}{f' as job {job.number}' if job.number else ''}."
+            + (" It begins:" if data else ""),
         ]
         return "\n".join([*head, *([""] if data else []), *map("> {}".format, _beginning(data))]).encode() + b"\n"
 

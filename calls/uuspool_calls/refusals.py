@@ -72,7 +72,7 @@ class Refuser:
         reason, job = printable(why[:500]), parcel.job
         try:
             if not is_kept:
-                self._keep(parcel, reason)
+                self._keep(parcel, reason, str(job.number))
             self._site.spool.kill(job)
         except OSError as error:
             return self._waits(job.number, f"it cannot be kept below {self._site.folder}/refused: {error.strerror}")
@@ -81,14 +81,18 @@ class Refuser:
         self._site.log.note(job.system, job.user, job.number, "refused-for-good", reason)
         return True
 
+    def keep(self, parcel: Parcel, why: str, name: str) -> None:
+        """Keeps what is no job of the spool, and so has the number 0, so that its user is told. No other one has such a name."""
+        self._keep(parcel, printable(why[:500]), f"{parcel.job.number}.{name}")
+
     def _waits(self, number: int, why: str) -> bool:
         self._site.session.say(f"job {number} cannot be refused now, and waits: {why}")
         return False
 
-    def _keep(self, parcel: Parcel, reason: str) -> None:
+    def _keep(self, parcel: Parcel, reason: str, name: str) -> None:
         """The same job is one file, and no other file is overwritten: a spool that was made anew gives its
         numbers again."""
-        first = f"{self._site.folder}/refused/{parcel.job.number}"
+        first = f"{self._site.folder}/refused/{name}"
         for copy in itertools.count(1):
             path = f"{first}.{copy}" if copy > 1 else first
             there = [it for it in (path, f"{path}{UNTOLD}") if os.path.lexists(it)]
@@ -119,7 +123,7 @@ class Kept(NamedTuple):
             job = Job.read(line)
             is_piece = pieces.Piece.of(job) is not None
             name, data = (pieces.name_of(job), b"") if is_piece else (path, file.read(_MOST_OF_A_LINE))
-            return Kept(path, pieces.whole_of(job), name, data, reason, job.number)
+            return Kept(path, pieces.whole_of(job), name, data, reason, job.number or None)
         return None
 
     @property
