@@ -223,12 +223,12 @@ class Refusing(Folder):
             self.assertEqual(told, tell(self.site))
 
     def test_many_refusals_are_one_letter(self) -> None:
-        for number in range(60):
+        for number in range(1, 61):
             job = parcel(LINE.replace("7", str(number), 1).replace("ann", f"unc!u{number}"))
             Refuser(self.site).refuse(job, "no such newsgroup")
         self.assertEqual(0, tell(self.site))
         letters = [words for words in self.spool.asked if words[0] == "mail"]
-        self.assertEqual([("mail", "--once=mysite!0!refused", "--", "unc!postmaster")], letters)
+        self.assertEqual([("mail", "--once=mysite!1!refused", "--", "unc!postmaster")], letters)
         self.assertEqual(60, len(os.listdir(f"{self.folder}/refused")) - 1)
 
     def test_who_takes_none_of_its_letters_gets_no_more(self) -> None:
