@@ -5,7 +5,7 @@ import select
 import signal
 import sys
 import time
-from collections.abc import Callable, Iterable, Mapping, Sequence
+from collections.abc import Callable, Iterable, Iterator, Mapping, Sequence
 
 from .errors import LATER, Failure, Stopped
 from .files import closing, memory_file
@@ -181,7 +181,7 @@ class Processes:
     """Runs programs for a command."""
 
     def __init__(self) -> None:
-        self._stopped = False
+        self._stopped = self._finishes = False
         self._wake, self._waker = os.pipe2(os.O_CLOEXEC | os.O_NONBLOCK)
 
     def catch_stops(self) -> None:
@@ -199,8 +199,18 @@ class Processes:
 
     def check(self) -> None:
         """Raises Stopped after a signal."""
-        if self._stopped:
+        if self._stopped and not self._finishes:
             raise Stopped
+
+    @contextlib.contextmanager
+    def finishing(self) -> Iterator[None]:
+        """What is begun in this is finished, and then a stop counts. (A program with a limit is ended even so.)"""
+        self._finishes = True
+        try:
+            yield
+        finally:
+            self._finishes = False
+        self.check()
 
     def wait_for(self, handles: Sequence[int], seconds: float | None = None) -> list[int]:
         """Waits until some of these can be read, or so long, unless this is stopped."""

@@ -154,8 +154,8 @@ def lines_in(text: str) -> Iterator[Line]:
 
 def queued_here(spool: str, owner: str, job: Waiting) -> str:
     """The line of a shell that queues a job of Taylor's spool here, and takes it out there. Nothing if no line does. root
-    types it, so the spool's user opens the file of the bytes, which is Taylor's copy. (A file that Taylor didn't copy is its
-    sender's, who may put a link there.)"""
+    types it, so the spool's user opens the file of the bytes, which is Taylor's copy, and runs Taylor's program, a file of this
+    user. (A file that Taylor didn't copy is its sender's, who may put a link there.)"""
     gap = f"{job.system}."
     if not is_name(job.system) or not is_name(job.id) or not job.id.startswith(gap):
         return ""
@@ -167,10 +167,9 @@ def queued_here(spool: str, owner: str, job: Waiting) -> str:
         return ""
     grade = job.id.removeprefix(gap)[:1]
     kind, *rest = queued
-    line = ["uuspool", f"--as={words[3]}", kind, f"-g{grade}", "--", job.system, *rest]
-    if data:
-        line = ["sh", "-c", f"{' '.join(map(_quoted, line))} <{_quoted(f'{spool}/{job.system}/D./{data}')}"]
-    return f"runuser -u {_quoted(owner)} -- {' '.join(map(_quoted, line))} && uustat -k {_quoted(job.id)}"
+    line = " ".join(map(_quoted, ["uuspool", f"--as={words[3]}", kind, f"-g{grade}", "--", job.system, *rest]))
+    given = f" <{_quoted(f'{spool}/{job.system}/D./{data}')}" if data else ""
+    return f"setsid -w runuser -u {_quoted(owner)} -- sh -c {_quoted(f'{line}{given} && uustat -k {_quoted(job.id)}')}"
 
 
 def _task(words: Sequence[str]) -> tuple[list[str], str]:
