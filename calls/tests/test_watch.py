@@ -156,7 +156,11 @@ class Checked(Folder):
 
     def test_su(self) -> None:
         line = "auth requisite pam_succeed_if.so quiet user notingroup root"
-        for logins, text, found in (["root"], "auth sufficient pam_rootok.so\n", 1), (["root"], f"# {line}\n", 1), (["root"], f"x\n{line}\n", 0), ([], "", 0):
+        first, other = "auth sufficient pam_rootok.so\n", line.replace("root", "wheel")
+        for logins, text, found in (
+            (["root"], first, 1), (["root"], f"{first}# {line}\n", 1), (["root"], f"#x\n{first}\n{line}\n@include common-auth\n", 0), ([], first, 0), (["root"], "", 0),
+            (["root"], f"{first}@include common-auth\n{line}\n", 1), (["root"], f"{first}{other}\n", 1), (["root"], f"{first}session x\n{line.replace(' ', '  ')}\n", 0),
+        ):  # fmt: skip
             self.said.clear()
             with mock.patch.object(check, "_logins", return_value=logins):
                 self.check._check_su(self.put("su", text))
