@@ -3,6 +3,7 @@ import fcntl
 import os
 import pwd
 import resource
+import subprocess
 import time
 
 from uuspool_calls import backup, copies, turn
@@ -48,6 +49,20 @@ class Copies(Folder):
             copier.finish()
         target.close()
         self.assertEqual((["a"], [f"{self.folder}/s/b: is a folder"]), (os.listdir(f"{self.folder}/copy"), copier.left_out))
+
+    def test_folders_without_end(self) -> None:
+        self.put("s/a", "a")
+        at = os.open(f"{self.folder}/s", os.O_RDONLY)
+        for _ in range(1200):
+            os.mkdir("d", dir_fd=at)
+            inner = os.open("d", os.O_RDONLY, dir_fd=at)
+            os.close(at)
+            at = inner
+        os.close(at)
+        found, left = self.copied("s")
+        self.assertEqual((["a"], 1), (found, len(left)))
+        self.assertTrue(left[0].endswith("/d: is in too many folders"), left)
+        subprocess.run(["rm", "-rf", f"{self.folder}/s"], check=True)
 
     def test_holes_stay_holes(self) -> None:
         for name, place in ("a", 32 << 20), ("b", 0):

@@ -13,6 +13,7 @@ _NEW = os.O_WRONLY | os.O_CREAT | os.O_EXCL | os.O_NOFOLLOW | os.O_CLOEXEC
 _MODE = 0o777
 _SPARE = 64  # descriptors
 _BLOCK = 1 << 20  # bytes
+_DEEPEST = 64  # folders of a path, below which nothing is copied
 
 
 class Target:
@@ -126,6 +127,8 @@ class Copier:
                 seen = os.stat(name, dir_fd=folder, follow_symlinks=False)
                 if stat.S_ISDIR(seen.st_mode) and wanted is None:
                     self.left_out.append(f"{path}/{name}: is a folder")
+                elif stat.S_ISDIR(seen.st_mode) and path.count("/") >= _DEEPEST:
+                    self.left_out.append(f"{path}/{name}: is in too many folders")
                 elif stat.S_ISDIR(seen.st_mode):
                     self._enter(name, folder, f"{path}/{name}", target.folder(name), wanted)
                 elif stat.S_ISLNK(seen.st_mode):
