@@ -49,7 +49,7 @@ def _answer(session: Session, site: Site, sender: str, onward: Sequence[str]) ->
     except NotTaken as why:
         raise Failure(LATER, str(why)) from None
     session.processes.write_output(1, neighbour.reply_to(text, taken), session.call_limit)
-    if fault := taken.later or taken.own_fault or (taken.faults and taken.faults[-1]):
+    if fault := taken.later or taken.fault:
         raise Failure(LATER, fault)
 
 

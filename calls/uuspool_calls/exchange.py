@@ -36,6 +36,11 @@ class Taken:
         self.own_fault = ""  # at this site
 
     @property
+    def fault(self) -> str:
+        """What has to be corrected, here or at the neighbour, or nothing."""
+        return self.own_fault or next(iter(self.faults[-1:]), "")
+
+    @property
     def moves_jobs(self) -> bool:
         """Whether the neighbour has to hear what is here, or refused here, now."""
         return self.unpacked.jobs + self.unpacked.unwanted > 0

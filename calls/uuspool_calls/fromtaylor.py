@@ -181,5 +181,5 @@ class TakeOver:
         spool = taylor.spool() if jobs else ""
         for job in jobs:
             line = queued_here(spool, self._owner or "uucp", job)
-            self._session.print(f"{job.id} {printable(job.user)} {printable(job.what)}")
+            self._session.print(printable(f"{job.id} {job.user} {job.what}"))
             self._session.print(f"    {line}" if line else "    (no line can do that: leave it to Taylor)")

@@ -60,8 +60,11 @@ class Session:
         return max(1, self.setting("UUSPOOL_AT_ONCE", 8))
 
     def finds(self, program: str, more: str = "") -> bool:
-        """Whether a program is there, by its path or in one of the folders of PATH and these."""
-        return is_program(program, (self.environment.get("PATH", "") + more).split(":"))
+        """Whether a program is there, by its path or in one of the folders of PATH and these. (The module shutil takes long to
+        load.)"""
+        folders = filter(None, (self.environment.get("PATH", "") + more).split(":"))
+        paths = [program] if "/" in program else [os.path.join(folder, program) for folder in folders]
+        return any(os.path.isfile(path) and os.access(path, os.X_OK) for path in paths)
 
     def run_as(self, owner: str, words: Sequence[str], given: bytes | int = b"", joined: bool = False) -> Ended:
         """Runs a program as this user, in the present folder. The terminal of root, who may run this, isn't its
@@ -85,12 +88,6 @@ class Session:
             return os.access(path, mode)
         letter = {os.R_OK: "-r", os.W_OK: "-w", os.X_OK: "-x"}[mode]
         return self.run_as(owner, ["test", letter, path]).status == 0
-
-
-def is_program(name: str, folders: Sequence[str]) -> bool:
-    """Whether a program is there, by its path or in one of these folders. (The module shutil takes long to load.)"""
-    paths = [name] if "/" in name else [os.path.join(folder, name) for folder in folders if name]
-    return any(os.path.isfile(path) and os.access(path, os.X_OK) for path in paths)
 
 
 def user_name(number: int) -> str:

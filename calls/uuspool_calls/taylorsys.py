@@ -8,6 +8,7 @@ import shlex
 from collections.abc import Iterator, Sequence
 
 from . import files
+from .session import acting_as
 from .taylor import Waiting
 from .texts import is_name, printable
 from .values import NamedTuple
@@ -39,6 +40,7 @@ _LOST_BY_BUNDLES = {
     "myname": "bundles have this site's one name",
 }
 _WHOLE_DAY = re.compile(r"(\d{4})-\1")
+_MOST_OF_A_JOB = 1 << 16  # bytes of what Taylor says of one
 _NO_LIMIT = "1000000"  # the most that a sys file may have
 
 
@@ -159,7 +161,8 @@ def queued_here(spool: str, owner: str, job: Waiting) -> str:
     gap = f"{job.system}."
     if not is_name(job.system) or not is_name(job.id) or not job.id.startswith(gap):
         return ""
-    text = files.read_bytes(f"{spool}/{job.system}/C./C.{job.id.removeprefix(gap)}") or b""
+    with acting_as(owner):
+        text = files.read_bytes(f"{spool}/{job.system}/C./C.{job.id.removeprefix(gap)}", _MOST_OF_A_JOB) or b""
     lines = text.decode(errors="surrogateescape").splitlines()
     words = lines[0].split(" ") if len(lines) == 1 else []
     queued, data = _task(words)
