@@ -85,9 +85,13 @@ pub data IsTimeString (tables : Tables) (text : List ℕ) : List (ℕ × ℕ) �
   named : (windows : List (ℕ × ℕ)) → ¬ IsNever text → table_at tables text ≡ Some windows → IsTimeString tables text windows
   listed : (spellings : List Spelling) → ¬ IsNever text → table_at tables text ≡ None → Spells (lower text) spellings → IsTimeString tables text (spelled_minutes spellings)
 
+-- the runs of a list of simple strings, if the text is one
+abbrev pub listed_windows : List ℕ → Option (List (ℕ × ℕ))
+listed_windows text = elim (list_of text) [ Ok simples ↦ Some (maximal_runs (any_has simples)) | Err at ↦ None ]
+
 -- a timetable of simple strings
 abbrev pub with_list : Tables → List ℕ → List ℕ → Tables
-with_list tables name text = elim (list_of text) [ Ok simples ↦ with_table tables name (maximal_runs (any_has simples)) | Err at ↦ tables ]
+with_list tables name text = elim (listed_windows text) [ Some windows ↦ with_table tables name windows | None ↦ tables ]
 
 -- the names and the strings of the timetables that are there from the start
 abbrev pub predefined_strings : List (List ℕ × List ℕ)

@@ -105,11 +105,17 @@ impl Reader {
         Ok(())
     }
 
-    fn define(&mut self, line: u32, name: SiteName, windows: Windows) -> Result<(), TimeFault>
+    fn define(
+        &mut self,
+        alloc: Global,
+        line: u32,
+        name: SiteName,
+        windows: Windows,
+    ) -> Result<(), TimeFault>
         ensures { Takes result self.new (absorbed self.old line (Table name windows)) }
     {
         self.tabled.add(&name, TimeFault::TableTwice(line))?;
-        self.tables.set(name, windows)?;
+        self.tables.set(alloc, name, windows)?;
         Ok(())
     }
 
@@ -129,7 +135,7 @@ impl Reader {
                 self.sections.set_success_wait(seconds);
                 Ok(())
             }
-            Directive::Table(name, windows) => self.define(line, name, windows),
+            Directive::Table(name, windows) => self.define(alloc, line, name, windows),
             Directive::Skip(number) => {
                 self.skipped.push(number)?;
                 Ok(())

@@ -1,6 +1,7 @@
 //! Timetables, and the time strings that may name them.
 ghost use Rattle.std.specs.Prelude.{◌≡◌, ℕ, nat_eq, List, Ok, Err, IfOk, IfErr, IsTrue, map, OnOk};
-ghost use Rattle.std.specs.BTreeMap.{insert_entry};
+ghost use Rattle.std.specs.BTreeMap.{insert_entry, is_at};
+ghost use Rattle.std.specs.Map.{lookup};
 ghost use Rattle.std.specs.Char.{to_ascii_lowercase};
 ghost use Rattle.std.specs.Cmp.Lexicographic.{slice_cmp};
 ghost use Rattle.std.specs.Ordering.{nat_cmp};
@@ -9,7 +10,7 @@ ghost use Rattle.std.specs.Str.{bytes_eq};
 ghost use Rattle.uu_names.specs.Name.{is_site_name};
 ghost use Rattle.uu_times.specs.Fault.{AnswersUnlessMemory, UnlessMemory};
 ghost use Rattle.uu_times.specs.Grammar.{lower};
-ghost use Rattle.uu_times.specs.Tables.{is_table_byte, is_table_rest, is_table_name, table_at, with_table, with_list, begins_with_day, unreadable, TellsFront, IsTimeString, windows_in, time_of, predefined_tables};
+ghost use Rattle.uu_times.specs.Tables.{is_table_byte, is_table_rest, is_table_name, table_at, listed_windows, with_list, begins_with_day, unreadable, TellsFront, IsTimeString, windows_in, time_of, predefined_tables};
 
 use crate::scan::{Unlisted, list_of};
 use crate::union::windows_of;
@@ -29,46 +30,86 @@ const DAY_WORDS: [&[u8]; 9] = [
 
 /// Timetables by their names, in lower case, seen as the list of names and runs in order of the
 /// names.
+///
+/// `tables` is `None` while no other timetable was added to those that are there from the start.
 #[derive(Drop)]
 pub struct Timetables {
-    tables: BTreeMap<SiteName, Windows>,
+    tables: Option<BTreeMap<SiteName, Windows>>,
 }
 
 impl Model for Timetables {
-    ghost use Rattle.std.specs.Prelude.{List, ℕ};
+    ghost use Rattle.std.specs.Option.{option_map_or};
+    ghost use Rattle.uu_times.specs.Tables.{Tables, predefined_tables};
 
-    ghost Value = { List (List ℕ × List (ℕ × ℕ)) };
+    ghost Value = { Tables };
 
-    ghost view = { λ t. t.tables.entries };
+    ghost view = { λ t. option_map_or (λ tables. tables.entries) t.tables predefined_tables };
+}
+
+// The set of a list of simple strings, or `None` if the text isn't one.
+fn listed_windows(alloc: Global, text: &[u8]) -> Result<Option<Windows>, AllocError>
+    ensures { IfOk result (λ windows. windows ≡ listed_windows text.now) }
+{
+    match list_of(alloc, text) {
+        Ok(simples) => Ok(Some(windows_of(alloc, &simples)?)),
+        Err(Unlisted::At(_)) => Ok(None),
+        Err(Unlisted::Memory) => Err(AllocError),
+    }
+}
+
+// The timetable of a name among those that are there from the start.
+fn find_predefined(alloc: Global, name: &[u8]) -> Result<Option<Windows>, AllocError>
+    ensures { IfOk result (λ found. found ≡ lookup (is_at (slice_cmp nat_cmp (lower name.now))) predefined_tables) }
+{
+    if equals_in_any_case(name, b"NonPeak") {
+        listed_windows(alloc, b"Wk1805-0655,Sa,Su")
+    } else if equals_in_any_case(name, b"Night") {
+        listed_windows(alloc, b"Wk2305-0755,Sa,Su2305-1655")
+    } else if equals_in_any_case(name, b"Evening") {
+        listed_windows(alloc, b"Wk1705-0755,Sa,Su")
+    } else {
+        Ok(None)
+    }
+}
+
+// Sets the timetable of a name to a list of simple strings. Any other text changes nothing.
+fn insert_list(
+    tables: &mut BTreeMap<SiteName, Windows>,
+    alloc: Global,
+    name: &[u8],
+    text: &[u8],
+) -> Result<(), AllocError>
+    requires { IsTrue (is_table_name name.now) }
+    ensures { OnOk result (tables.new.entries ≡ with_list tables.old.entries name.now text.now) }
+{
+    if let Some(windows) = listed_windows(alloc, text)? {
+        let key = key_of(alloc, name)?;
+        tables.insert(key, windows)?;
+    }
+    Ok(())
+}
+
+// The timetables that are there from the start, in a map.
+#[tactic(auto, unfolding(crate::specs::Tables::predefined_tables))]
+fn predefined_map(alloc: Global) -> Result<BTreeMap<SiteName, Windows>, AllocError>
+    ensures { IfOk result (λ tables. tables.entries ≡ predefined_tables) }
+{
+    let mut tables = BTreeMap::new(alloc);
+    insert_list(&mut tables, alloc, b"Evening", b"Wk1705-0755,Sa,Su")?;
+    insert_list(&mut tables, alloc, b"Night", b"Wk2305-0755,Sa,Su2305-1655")?;
+    insert_list(&mut tables, alloc, b"NonPeak", b"Wk1805-0655,Sa,Su")?;
+    Ok(tables)
 }
 
 impl Timetables {
-    /// The timetables that are there from the start: `Evening`, `Night` and `NonPeak`.
+    /// The timetables that are there from the start: `Evening`, `Night` and `NonPeak`. They take no
+    /// memory until another is added.
     ///
     /// `Memory` is the only error.
-    #[tactic(auto, unfolding(crate::specs::Tables::predefined_tables))]
-    pub fn predefined(alloc: Global) -> Result<Timetables, TimeFault>
+    pub fn predefined(_alloc: Global) -> Result<Timetables, TimeFault>
         ensures { AnswersUnlessMemory result (Ok predefined_tables) }
     {
-        let mut tables = Timetables {
-            tables: BTreeMap::new(alloc),
-        };
-        tables.insert_list(alloc, b"Evening", b"Wk1705-0755,Sa,Su")?;
-        tables.insert_list(alloc, b"Night", b"Wk2305-0755,Sa,Su2305-1655")?;
-        tables.insert_list(alloc, b"NonPeak", b"Wk1805-0655,Sa,Su")?;
-        Ok(tables)
-    }
-
-    // Sets the timetable of a name to a list of simple strings. Any other text changes nothing.
-    fn insert_list(&mut self, alloc: Global, name: &[u8], text: &[u8]) -> Result<(), AllocError>
-        requires { IsTrue (is_table_name name.now) }
-        ensures { OnOk result (self.new ≡ with_list self.old name.now text.now) }
-    {
-        match list_of(alloc, text) {
-            Ok(simples) => self.insert(alloc, name, windows_of(alloc, &simples)?),
-            Err(Unlisted::At(_)) => Ok(()),
-            Err(Unlisted::Memory) => Err(AllocError),
-        }
+        Ok(Timetables { tables: None })
     }
 
     /// The timetable of a name, in any case of letters.
@@ -78,33 +119,48 @@ impl Timetables {
         if !is_table_name(name) {
             return Ok(None);
         }
-        let key = key_of(alloc, name)?;
-        match self.tables.get(&key) {
-            None => Ok(None),
-            Some(windows) => Ok(Some(windows.clone()?)),
+        match &self.tables {
+            None => find_predefined(alloc, name),
+            Some(tables) => find_in(tables, alloc, name),
         }
     }
 
-    /// Sets the timetable of a name, in place of one of that name.
-    pub(crate) fn insert(
+    /// Sets the timetable of a name in lower case, in place of one of that name.
+    pub(crate) fn set(
         &mut self,
         alloc: Global,
-        name: &[u8],
+        name: SiteName,
         windows: Windows,
     ) -> Result<(), AllocError>
-        requires { IsTrue (is_table_name name.now) }
-        ensures { OnOk result (self.new ≡ with_table self.old name.now windows) }
-    {
-        let key = key_of(alloc, name)?;
-        self.set(key, windows)
-    }
-
-    /// The same, for a name in lower case.
-    pub(crate) fn set(&mut self, name: SiteName, windows: Windows) -> Result<(), AllocError>
         ensures { OnOk result (self.new ≡ insert_entry (slice_cmp nat_cmp) self.old name windows) }
     {
-        self.tables.insert(name, windows)?;
+        match &mut self.tables {
+            Some(tables) => {
+                tables.insert(name, windows)?;
+            }
+            None => {
+                let mut tables = predefined_map(alloc)?;
+                tables.insert(name, windows)?;
+                self.tables = Some(tables);
+            }
+        }
         Ok(())
+    }
+}
+
+// The timetable of a name in a map.
+fn find_in(
+    tables: &BTreeMap<SiteName, Windows>,
+    alloc: Global,
+    name: &[u8],
+) -> Result<Option<Windows>, AllocError>
+    requires { IsTrue (is_table_name name.now) }
+    ensures { IfOk result (λ found. found ≡ lookup (is_at (slice_cmp nat_cmp (lower name.now))) tables.now.entries) }
+{
+    let key = key_of(alloc, name)?;
+    match tables.get(&key) {
+        None => Ok(None),
+        Some(windows) => Ok(Some(windows.clone()?)),
     }
 }
 
