@@ -1,16 +1,16 @@
 -- A printed text grows.
-use Rattle.std.proofs.Common.{◌≡◌, ℕ, ◌+◌, ◌-◌, ◌<◌, ◌≤◌, true, false, cond, Option, None, Some, Result, Ok, Err, List, [], ◌∷◌, ◌++◌, length, map, take, drop, length-drop, get_or, refl, ap, sym, ◌∙◌, arith, append_assoc, append-nil, OnOk, codes}
-use Rattle.std.specs.Prelude.{is_ok, option_to_list}
-use Rattle.std.proofs.lemmas.List.Elements.{filter_map-append}
+use Rattle.std.proofs.Common.{◌≡◌, ℕ, ◌+◌, ◌<◌, ◌≤◌, Bool, true, false, ◌&&◌, cond, Option, None, Some, Result, Ok, Err, List, [], ◌∷◌, ◌++◌, length, map, take, drop, get_or, refl, ap, sym, ◌∙◌, arith, append_assoc, append-nil, OnOk, codes}
+use Rattle.std.specs.Prelude.{is_ok}
 use Rattle.std.proofs.lemmas.Bool.{cond-true, cond-false}
 use Rattle.std.proofs.lemmas.Grind.{flat_map-append}
-use Rattle.std.proofs.lemmas.List.{take_more, take_all, map-append}
+use Rattle.std.proofs.lemmas.List.{take_more, map-append, length-append}
+use Rattle.std.proofs.Math.Seq.{take-append_seam, drop-append-add}
 use Rattle.std.specs.Fmt.{decimal}
 use Rattle.std.specs.List.{flat_map, filter_map, cons_option}
 use Rattle.uu_times.specs.declared.system.Line.{Line}
 use Rattle.uu_times.specs.System.{System}
 use Rattle.uu_times.specs.Grammar.{DayWord, su, mo, tu, we, th, fr, sa, wk, any}
-use Rattle.uu_times.specs.Printed.{behind, on_day, Piece, pieces_on, days_of_week, weekdays_alike, ends_alike, weekdays_and_ends, groups_of, pieces_of, word_name, piece_text, pieces_text, part_text, time_text, time_words, line_text, system_text}
+use Rattle.uu_times.specs.Printed.{behind, on_day, Piece, pieces_on, days_of_week, weekdays_alike, ends_alike, weekdays_and_ends, groups_of, pieces_of, same_range, same_ranges, word_name, piece_text, pieces_text, part_text, time_text, time_words, line_text, system_text}
 
 -- by the text of the next item
 pub grow : {X : Type 0} (f : X → List ℕ) (xs : List X) (i : ℕ) (d : X) (start before after : List ℕ) → i < length xs
@@ -95,24 +95,29 @@ week_text start a b c d e f g runs p0 p1 p2 p3 p4 p5 p6 =
     seven : (s a b c d e f g : List ℕ) → (((((((s ++ a) ++ b) ++ c) ++ d) ++ e) ++ f) ++ g) ≡ s ++ (a ++ (b ++ (c ++ (d ++ (e ++ (f ++ (g ++ [])))))))
     seven s a b c d e f g = sym (simp (append_assoc, append-nil) refl)
 
--- a set without minutes, and one with some
-never_pieces : (list : List ℕ) (pieces : List Piece) → list ≡ behind 44 (map piece_text pieces) → length list < 1 → codes "Never" ≡ pieces_text pieces
-never_pieces list [] is short = refl
-never_pieces list (piece ∷ pieces) is short = absurd (omega (arith, ap length is))
+-- a set without minutes, and one with some, whose text has a comma before it
+never_pieces : (old list : List ℕ) (pieces : List Piece) → list ≡ old ++ behind 44 (map piece_text pieces) → length list ≤ length old → (list ≡ old) × (codes "Never" ≡ pieces_text pieces)
+never_pieces old list [] is short = (is ∙ append-nil old, refl)
+never_pieces old list (piece ∷ pieces) is short =
+    absurd (omega (arith, ap length is, length-append old (behind 44 (map piece_text (piece ∷ pieces)))))
 
-pub never_text : (list : List ℕ) (runs : List (ℕ × ℕ)) → list ≡ behind 44 (map piece_text (pieces_of runs)) → length list < 1 → codes "Never" ≡ time_text runs
+pub never_text : (old list : List ℕ) (runs : List (ℕ × ℕ)) → list ≡ old ++ behind 44 (map piece_text (pieces_of runs)) → length list ≤ length old → (list ≡ old) × (codes "Never" ≡ time_text runs)
 unfolding time_text
-never_text list runs is short = never_pieces list (pieces_of runs) is short
+never_text old list runs is short = never_pieces old list (pieces_of runs) is short
 
-some_pieces : (list : List ℕ) (pieces : List Piece) → list ≡ behind 44 (map piece_text pieces) → 1 ≤ length list → drop 1 list ≡ pieces_text pieces
-some_pieces list [] is some = absurd (omega (arith, ap length is))
-some_pieces list (piece ∷ pieces) is some = ap (drop 1) is
+some_pieces : (old list new : List ℕ) (pieces : List Piece) → list ≡ old ++ behind 44 (map piece_text pieces) → length old < length list
+    → new ≡ take (length old) list ++ drop (length old + 1) list → new ≡ old ++ pieces_text pieces
+some_pieces old list new [] is some cut = absurd (omega (arith, ap length (is ∙ append-nil old)))
+some_pieces old list new (piece ∷ pieces) is some cut =
+    cut
+    ∙ ap (λ (l : List ℕ). take (length old) l ++ drop (length old + 1) l) is
+    ∙ ap (λ (front : List ℕ). front ++ drop (length old + 1) (old ++ behind 44 (map piece_text (piece ∷ pieces)))) (take-append_seam old (behind 44 (map piece_text (piece ∷ pieces))))
+    ∙ ap (λ (back : List ℕ). old ++ back) (drop-append-add old (behind 44 (map piece_text (piece ∷ pieces))) 1)
 
-pub some-text : (list : List ℕ) (runs : List (ℕ × ℕ)) → list ≡ behind 44 (map piece_text (pieces_of runs)) → 1 ≤ length list
-    → take (length list - 1) (drop 1 list) ≡ time_text runs
+pub some-text : (old list new : List ℕ) (runs : List (ℕ × ℕ)) → list ≡ old ++ behind 44 (map piece_text (pieces_of runs)) → length old < length list
+    → new ≡ take (length old) list ++ drop (length old + 1) list → new ≡ old ++ time_text runs
 unfolding time_text
-some-text list runs is some =
-    take_all (length list - 1) (drop 1 list) (omega (arith, length-drop 1 list)) ∙ some_pieces list (pieces_of runs) is some
+some-text old list new runs is some cut = some_pieces old list new (pieces_of runs) is some cut
 
 -- a text that was added
 pub extended : {E : Type 0} (result : Result (Unit {0}) E) (old new more wanted : List ℕ) → new ≡ cond (is_ok result) (old ++ more) old → more ≡ wanted → OnOk result (new ≡ old ++ wanted)
@@ -136,17 +141,22 @@ system_grown system start a b c d p q r s =
     four : (s a b c d : List ℕ) → ((((s ++ a) ++ b) ++ c) ++ d) ≡ s ++ (a ++ (b ++ (c ++ d)))
     four s a b c d = simp append_assoc
 
--- the parts of one range more
-one_option : {Y : Type 0} (o : Option Y) → cons_option o [] ≡ option_to_list o
-one_option None = refl
-one_option (Some y) = refl
+-- parts of two days one by one
+abbrev pub Parts : Type 0
+Parts = List (ℕ × ℕ)
 
-pub part_grow : {X Y : Type 0} (h : X → Option Y) (xs : List X) (i : ℕ) (d : X) (before after : List Y) (o : Option Y) → i < length xs → o ≡ h (get_or xs i d)
-    → before ≡ filter_map h (take i xs) → after ≡ before ++ option_to_list o → after ≡ filter_map h (take (i + 1) xs)
-part_grow {X} {Y} h xs i d before after o inside is so_far grown =
-    grown
-    ∙ ap (λ (t : List Y). t ++ option_to_list o) so_far
-    ∙ ap (λ (p : Option Y). filter_map h (take i xs) ++ option_to_list p) is
-    ∙ ap (λ (t : List Y). filter_map h (take i xs) ++ t) (sym (one_option (h (get_or xs i d))))
-    ∙ sym (filter_map-append h (take i xs) (get_or xs i d ∷ []))
-    ∙ ap (filter_map h) (sym (take_more xs i d inside))
+pub alike_more : (a b : ℕ × ℕ) (left right xs ys : Parts) (whole : Bool) → left ≡ a ∷ xs → right ≡ b ∷ ys → same_range a b ≡ true
+    → same_ranges left right ≡ whole → same_ranges xs ys ≡ whole
+alike_more a b left right xs ys whole l r same is =
+    sym (ap (λ t. t && same_ranges xs ys) same) ∙ sym (ap (λ (t : Parts). same_ranges t right) l ∙ ap (λ (t : Parts). same_ranges (a ∷ xs) t) r) ∙ is
+
+pub alike_not : (a b : ℕ × ℕ) (left right xs ys : Parts) (whole : Bool) → left ≡ a ∷ xs → right ≡ b ∷ ys → same_range a b ≡ false
+    → same_ranges left right ≡ whole → false ≡ whole
+alike_not a b left right xs ys whole l r other is =
+    sym (ap (λ t. t && same_ranges xs ys) other) ∙ sym (ap (λ (t : Parts). same_ranges t right) l ∙ ap (λ (t : Parts). same_ranges (a ∷ xs) t) r) ∙ is
+
+pub alike_longer : (a : ℕ × ℕ) (left right xs : Parts) (whole : Bool) → left ≡ a ∷ xs → right ≡ [] → same_ranges left right ≡ whole → false ≡ whole
+alike_longer a left right xs whole l r is = sym (ap (λ (t : Parts). same_ranges t right) l ∙ ap (λ (t : Parts). same_ranges (a ∷ xs) t) r) ∙ is
+
+pub alike_ends : (left right : Parts) (whole : Bool) → left ≡ [] → same_ranges left right ≡ whole → same_ranges [] right ≡ whole
+alike_ends left right whole l is = sym (ap (λ (t : Parts). same_ranges t right) l) ∙ is

@@ -1,6 +1,6 @@
 -- The time string that is printed of a set of minutes is read as that set.
-use Rattle.std.proofs.Common.{◌≡◌, inl, inr, ℕ, zero, suc, ◌+◌, ◌-◌, ◌*◌, ◌/◌, ◌%◌, ◌<◌, ◌≤◌, Bool, true, false, ◌&&◌, ◌||◌, cond, Option, None, Some, IfSome, option_map, Result, Ok, Err, List, [], ◌∷◌, ◌++◌, length, map, refl, ap, sym, subst, ◌∙◌, arith, nat_eq, nat_le, append_assoc, append-nil, codes, max, min}
-use Rattle.std.proofs.lemmas.Bool.{false_from_ne_true, cond_both, cond-true, cond-false, leb-true, leb-false, and_parts, eqb-true, false≢true, ne_eqb, cases_Bool}
+use Rattle.std.proofs.Common.{◌≡◌, inl, inr, ℕ, zero, suc, ◌+◌, ◌-◌, ◌*◌, ◌/◌, ◌%◌, ◌<◌, ◌≤◌, Bool, true, false, ◌&&◌, ◌||◌, cond, Option, None, Some, IfSome, option_map, Result, Ok, Err, List, [], ◌∷◌, ◌++◌, map, refl, ap, sym, subst, ◌∙◌, arith, nat_eq, nat_le, append_assoc, append-nil, codes, max, min}
+use Rattle.std.proofs.lemmas.Bool.{cond_both, cond-true, cond-false, leb-true, leb-false, and_parts, eqb-true, false≢true, ne_eqb, cases_Bool}
 use Rattle.std.proofs.lemmas.Bool.Decides.{nat_tests}
 use Rattle.std.proofs.lemmas.List.{map-append}
 use Rattle.std.proofs.lemmas.List.Folds.{list_any-append}
@@ -284,10 +284,6 @@ ranges_same (x ∷ xs) [] same = absurd (false≢true same)
 ranges_same (x ∷ xs) (y ∷ ys) same =
     let both = and_parts (same_range x y) (same_ranges xs ys) same in
     ap (λ (r : ℕ × ℕ). r ∷ xs) (range_same x y both.0) ∙ ap (λ (rs : List (ℕ × ℕ)). y ∷ rs) (ranges_same xs ys both.1)
-
--- lists of other lengths are not
-pub ranges_other : (xs ys : List (ℕ × ℕ)) → (length xs ≡ length ys → ⊥) → false ≡ same_ranges xs ys
-ranges_other xs ys other = sym (false_from_ne_true (same_ranges xs ys) (λ same. other (ap length (ranges_same xs ys same))))
 
 abbrev on : List (ℕ × ℕ) → ℕ → List (ℕ × ℕ)
 on runs day = filter_map (on_day day) runs

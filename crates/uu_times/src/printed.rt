@@ -1,14 +1,15 @@
 //! Systems as a sys file, which [`read_sys`](crate::read_sys) reads back.
-ghost use Rattle.std.specs.Prelude.{◌≡◌, ◌∷◌, ◌++◌, ◌<◌, ◌≤◌, ◌/◌, ◌%◌, [], ℕ, Ok, OnOk, IfOk, IfSome, IsTrue, codes, map, length, option_to_list, All};
+ghost use Rattle.std.specs.Prelude.{◌≡◌, ◌∷◌, ◌++◌, ◌<◌, ◌≤◌, ◌/◌, ◌%◌, [], ℕ, Ok, OnOk, IfOk, IfSome, IsTrue, MatchOption, codes, map, length, All};
 ghost use Rattle.std.specs.Fmt.{decimal};
 ghost use Rattle.std.specs.List.{flat_map, filter_map};
 ghost use Rattle.std.specs.String.{string_bytes};
 ghost use Rattle.uu_names.specs.Name.{is_site_name};
 ghost use Rattle.uu_times.specs.Grammar.{two_digits, hours_text};
-ghost use Rattle.uu_times.specs.Printed.{behind, on_day, pieces_on, days_of_week, weekdays_and_ends, same_range, same_ranges, are_alike, weekdays_alike, ends_alike, pieces_of, hours_of, piece_text, part_text, time_text, keyword_text, retry_text, time_words, line_text, system_text, sys_text, IsLine, IsSystem, NamesDiffer};
+ghost use Rattle.uu_times.specs.Printed.{behind, on_day, pieces_on, days_of_week, weekdays_and_ends, same_range, are_alike, weekdays_alike, ends_alike, pieces_of, hours_of, piece_text, part_text, time_text, keyword_text, retry_text, time_words, line_text, system_text, sys_text, IsLine, IsSystem, NamesDiffer};
 ghost use Rattle.uu_times.specs.SysFile.{sys_file_of};
 
 use crate::{Line, SystemDef};
+use itoa::Buffer;
 use std::alloc::{AllocError, Global};
 use uu_names::{Grade, SiteName};
 
@@ -117,25 +118,21 @@ fn push_parts(text: &mut Vec<u8>, ranges: &[(u16, u16)]) -> Result<(), AllocErro
     push_day(text, b"Su", 0, ranges)
 }
 
-// Adds a range, if there is one.
-fn push_some(ranges: &mut Vec<(u16, u16)>, range: Option<(u16, u16)>) -> Result<(), AllocError>
-    ensures { OnOk result (ranges.new.items ≡ ranges.old.items ++ option_to_list range) }
-{
-    if let Some(range) = range {
-        ranges.push(range)?;
-    }
-    Ok(())
-}
-
-fn day_ranges(alloc: Global, ranges: &[(u16, u16)], day: u16) -> Result<Vec<(u16, u16)>, AllocError>
+// The first part that ranges have on a day, and the ranges after it.
+fn next_part(ranges: &[(u16, u16)], day: u16) -> Option<((u16, u16), &[(u16, u16)])>
     requires { day < 7 }
-    ensures { IfOk result (λ parts. parts.items ≡ filter_map (on_day day) ranges.now) }
+    ensures part { MatchOption result (filter_map (on_day day) ranges.now ≡ [])
+        (λ found. filter_map (on_day day) ranges.now ≡ found.0 ∷ filter_map (on_day day) found.1.now) }
+    ensures shorter { IfSome result (λ found. length found.1.now < length ranges.now) }
 {
-    let mut parts = Vec::new(alloc);
-    for range in ranges {
-        push_some(&mut parts, on_day(day, *range))?;
+    let mut rest = ranges;
+    while let Some((range, behind)) = rest.split_first() {
+        if let Some(part) = on_day(day, *range) {
+            return Some((part, behind));
+        }
+        rest = behind;
     }
-    Ok(parts)
+    None
 }
 
 // Whether a range is the same as another.
@@ -145,82 +142,77 @@ fn same_range(range: (u16, u16), other: (u16, u16)) -> bool
     range.0 == other.0 && range.1 == other.1
 }
 
-fn same_ranges(ranges: &[(u16, u16)], others: &[(u16, u16)]) -> bool
-    ensures { result ≡ same_ranges ranges.now others.now }
-{
-    if ranges.len() != others.len() {
-        return false;
-    }
-    for at in 0..ranges.len() {
-        if !same_range(ranges[at], others[at]) {
-            return false;
-        }
-    }
-    true
-}
-
 // Whether ranges have the same minutes on two days.
 #[tactic(auto, unfolding(crate::specs::Printed::are_alike))]
-fn are_alike(alloc: Global, ranges: &[(u16, u16)], day: u16, other: u16) -> Result<bool, AllocError>
+fn are_alike(ranges: &[(u16, u16)], day: u16, other: u16) -> bool
     requires day { day < 7 }
     requires other { other < 7 }
-    ensures { IfOk result (λ alike. alike ≡ are_alike ranges.now day other) }
+    ensures { result ≡ are_alike ranges.now day other }
 {
-    let parts = day_ranges(alloc, ranges, day)?;
-    let others = day_ranges(alloc, ranges, other)?;
-    Ok(same_ranges(&parts, &others))
+    let mut left = ranges;
+    let mut right = ranges;
+    while let Some((part, behind)) = next_part(left, day) {
+        let Some((other_part, other_behind)) = next_part(right, other) else {
+            return false;
+        };
+        if !same_range(part, other_part) {
+            return false;
+        }
+        left = behind;
+        right = other_behind;
+    }
+    next_part(right, other).is_none()
 }
 
 // Whether they have the same minutes on each day from Monday to Friday.
-fn weekdays_alike(alloc: Global, ranges: &[(u16, u16)]) -> Result<bool, AllocError>
-    ensures { IfOk result (λ alike. alike ≡ weekdays_alike ranges.now) }
+fn weekdays_alike(ranges: &[(u16, u16)]) -> bool
+    ensures { result ≡ weekdays_alike ranges.now }
 {
-    let second = are_alike(alloc, ranges, 1, 2)?;
-    let third = are_alike(alloc, ranges, 2, 3)?;
-    let fourth = are_alike(alloc, ranges, 3, 4)?;
-    let fifth = are_alike(alloc, ranges, 4, 5)?;
-    Ok(second && third && fourth && fifth)
+    are_alike(ranges, 1, 2)
+        && are_alike(ranges, 2, 3)
+        && are_alike(ranges, 3, 4)
+        && are_alike(ranges, 4, 5)
 }
 
 // Whether Sunday has the minutes of Monday, and Saturday those of Friday.
-fn ends_alike(alloc: Global, ranges: &[(u16, u16)]) -> Result<bool, AllocError>
-    ensures { IfOk result (λ alike. alike ≡ ends_alike ranges.now) }
+fn ends_alike(ranges: &[(u16, u16)]) -> bool
+    ensures { result ≡ ends_alike ranges.now }
 {
-    let first = are_alike(alloc, ranges, 0, 1)?;
-    let last = are_alike(alloc, ranges, 5, 6)?;
-    Ok(first && last)
+    are_alike(ranges, 0, 1) && are_alike(ranges, 5, 6)
 }
 
 // Adds the ranges of the week.
-fn push_week(alloc: Global, text: &mut Vec<u8>, ranges: &[(u16, u16)]) -> Result<(), AllocError>
+fn push_week(text: &mut Vec<u8>, ranges: &[(u16, u16)]) -> Result<(), AllocError>
     ensures { OnOk result (text.new.items ≡ text.old.items ++ behind 44 (map piece_text (pieces_of ranges.now))) }
 {
-    if !weekdays_alike(alloc, ranges)? {
+    if !weekdays_alike(ranges) {
         return push_days(text, ranges);
     }
-    if ends_alike(alloc, ranges)? {
+    if ends_alike(ranges) {
         return push_day(text, b"Any", 0, ranges);
     }
     push_parts(text, ranges)
 }
 
 // Adds a set of minutes as a time string.
-fn push_windows(alloc: Global, text: &mut Vec<u8>, ranges: &[(u16, u16)]) -> Result<(), AllocError>
+fn push_windows(text: &mut Vec<u8>, ranges: &[(u16, u16)]) -> Result<(), AllocError>
     ensures { OnOk result (text.new.items ≡ text.old.items ++ time_text ranges.now) }
 {
-    let mut list = Vec::new(alloc);
-    push_week(alloc, &mut list, ranges)?;
-    match list.as_slice() {
-        [] => text.extend_from_slice(b"Never"),
-        [_, rest @ ..] => text.extend_from_slice(rest),
+    let start = text.len();
+    push_week(text, ranges)?;
+    if start < text.len() {
+        text.remove(start);
+        Ok(())
+    } else {
+        text.extend_from_slice(b"Never")
     }
 }
 
-fn push_number(alloc: Global, text: &mut Vec<u8>, number: u32) -> Result<(), AllocError>
+fn push_number(text: &mut Vec<u8>, number: u32) -> Result<(), AllocError>
     ensures { OnOk result (text.new.items ≡ text.old.items ++ decimal number) }
 {
-    let digits = format!(in alloc; "{number}")?;
-    text.extend_from_slice(digits.as_bytes())
+    let mut digits = Buffer::new();
+    text.extend_from_slice(digits.format(number).as_bytes())
 }
 
 // Adds the keyword of a time line, with the grade if it isn't the lowest.
@@ -238,51 +230,46 @@ fn push_keyword(text: &mut Vec<u8>, grade: Grade) -> Result<(), AllocError>
 }
 
 // Adds a retry number.
-fn push_retry(alloc: Global, text: &mut Vec<u8>, retry: Option<u32>) -> Result<(), AllocError>
+fn push_retry(text: &mut Vec<u8>, retry: Option<u32>) -> Result<(), AllocError>
     ensures { OnOk result (text.new.items ≡ text.old.items ++ retry_text retry) }
 {
     if let Some(minutes) = retry {
         text.push(b' ')?;
-        push_number(alloc, text, minutes)?;
+        push_number(text, minutes)?;
     }
     Ok(())
 }
 
 // Adds a time line.
-fn push_line(alloc: Global, text: &mut Vec<u8>, line: &Line) -> Result<(), AllocError>
+fn push_line(text: &mut Vec<u8>, line: &Line) -> Result<(), AllocError>
     ensures is { OnOk result (IsLine line.now) }
     ensures text { OnOk result (text.new.items ≡ text.old.items ++ line_text (time_words line.now)) }
 {
     push_keyword(text, line.grade)?;
-    push_windows(alloc, text, line.windows.ranges())?;
-    push_retry(alloc, text, line.retry)?;
+    push_windows(text, line.windows.ranges())?;
+    push_retry(text, line.retry)?;
     text.push(b'\n')?;
     Ok(())
 }
 
 // Adds time lines.
-fn push_lines(alloc: Global, text: &mut Vec<u8>, lines: &[Line]) -> Result<(), AllocError>
+fn push_lines(text: &mut Vec<u8>, lines: &[Line]) -> Result<(), AllocError>
     ensures are { OnOk result (All IsLine lines.now) }
     ensures text { OnOk result (text.new.items ≡ text.old.items ++ flat_map (λ line. line_text (time_words line)) lines.now) }
 {
     for line in lines {
-        push_line(alloc, text, line)?;
+        push_line(text, line)?;
     }
     Ok(())
 }
 
 // Adds a keyword and a number as a line.
-fn push_setting(
-    alloc: Global,
-    text: &mut Vec<u8>,
-    keyword: &[u8],
-    number: u32,
-) -> Result<(), AllocError>
+fn push_setting(text: &mut Vec<u8>, keyword: &[u8], number: u32) -> Result<(), AllocError>
     ensures { OnOk result (text.new.items ≡ text.old.items ++ line_text (keyword.now ∷ decimal number ∷ [])) }
 {
     text.extend_from_slice(keyword)?;
     text.push(b' ')?;
-    push_number(alloc, text, number)?;
+    push_number(text, number)?;
     text.push(b'\n')?;
     Ok(())
 }
@@ -299,14 +286,14 @@ fn push_name(text: &mut Vec<u8>, name: &SiteName) -> Result<(), AllocError>
 }
 
 // Adds the lines of a system.
-fn push_system(alloc: Global, text: &mut Vec<u8>, system: &SystemDef) -> Result<(), AllocError>
+fn push_system(text: &mut Vec<u8>, system: &SystemDef) -> Result<(), AllocError>
     ensures is { OnOk result (IsSystem system.now) }
     ensures text { OnOk result (text.new.items ≡ text.old.items ++ system_text system.now) }
 {
     push_name(text, &system.name)?;
-    push_setting(alloc, text, b"max-retries", system.max_retries)?;
-    push_setting(alloc, text, b"success-wait", system.success_wait)?;
-    push_lines(alloc, text, system.lines())
+    push_setting(text, b"max-retries", system.max_retries)?;
+    push_setting(text, b"success-wait", system.success_wait)?;
+    push_lines(text, system.lines())
 }
 
 /// The systems as a sys file, in their order. Each has a `system`, a `max-retries` and a
@@ -321,9 +308,9 @@ pub fn write_sys(alloc: Global, systems: &[SystemDef]) -> Result<Vec<u8>, AllocE
     ensures text { IfOk result (λ text. text.items ≡ sys_text systems.now) }
     ensures read { IfOk result (λ text. NamesDiffer systems.now → sys_file_of text.items ≡ Ok (record { systems = systems.now; skipped = [] })) }
 {
-    let mut text = Vec::new(alloc);
+    let mut text = Vec::with_capacity(alloc, 256)?;
     for system in systems {
-        push_system(alloc, &mut text, system)?;
+        push_system(&mut text, system)?;
     }
     Ok(text)
 }

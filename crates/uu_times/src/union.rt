@@ -23,7 +23,7 @@ fn week_ranges(alloc: Global, simples: &[Simple]) -> Result<Vec<(u16, u16)>, All
     requires { All IsDaily simples.now }
     ensures { IfOk result (λ ranges. ranges.items ≡ week_ranges simples.now) }
 {
-    let mut ranges = Vec::new(alloc);
+    let mut ranges = Vec::with_capacity(alloc, 14)?;
     for simple in simples {
         push_simple(&mut ranges, simple)?;
     }
@@ -77,7 +77,7 @@ fn push_hours(
 fn merged(alloc: Global, sorted: &[(u16, u16)]) -> Result<Vec<(u16, u16)>, AllocError>
     ensures { IfOk result (λ runs. runs.items ≡ merged sorted.now) }
 {
-    let mut runs = Vec::new(alloc);
+    let mut runs = Vec::with_capacity(alloc, sorted.len().min(8))?;
     let [first, rest @ ..] = sorted else {
         return Ok(runs);
     };

@@ -1,14 +1,21 @@
-use Rattle.std.proofs.Common.{◌++◌, ap, ◌∙◌, map}
-use Rattle.uu_times.specs.Printed.{behind, pieces_of, piece_text}
+use Rattle.std.proofs.Common.{◌≡◌, ◌<◌, ◌≤◌, ◌+◌, ◌++◌, OnOk, List, ℕ, ap, arith, drop, length, subst, take, ◌∙◌}
+use Rattle.uu_times.specs.Printed.{time_text}
 use Rattle.uu_times.proofs.PrintedText.{never_text, some-text, extended}
 use Rattle.uu_times.proofs.printed.push_windows.Goals as goal
 
-pub returns-in-empty : goal.returns-in-empty
-returns-in-empty c =
-    extended c.extend_from_slice.result c.args.text.now.items c.extend_from_slice.new.self.items _ _ c.extend_from_slice.ensures.items
-    (never_text c.as_slice.result.now c.args.ranges.now (c.as_slice.ensures.value ∙ c.in_ok-push_week.ensures ∙ ap (λ l. l ++ behind 44 (map piece_text (pieces_of c.args.ranges.now))) c.new-list.ensures.items) c.in-empty.len_below)
+pub returns-then-start-len : goal.returns-then-start-len
+returns-then-start-len c =
+    let old = c.args.text.now.items in
+    let list = c.push_week.new.text.items in
+    let start : c.len-start.result ≡ length old = omega arith in
+    let longer : length old < length list = omega arith in
+    some-text old list c.remove.new.self.items c.args.ranges.now c.in_ok-push_week.ensures longer
+    (c.remove.ensures.by_index.2 ∙ ap (λ (n : ℕ). take n list ++ drop (n + 1) list) start)
 
-pub returns : goal.returns
-returns c =
-    extended c.extend_from_slice-in-len1-up.result c.args.text.now.items c.extend_from_slice-in-len1-up.new.self.items _ _ c.extend_from_slice-in-len1-up.ensures.items
-    (some-text c.as_slice.result.now c.args.ranges.now (c.as_slice.ensures.value ∙ c.in_ok-push_week.ensures ∙ ap (λ l. l ++ behind 44 (map piece_text (pieces_of c.args.ranges.now))) c.new-list.ensures.items) c.in-len1-up.len_at_least)
+pub returns-else-start-len : goal.returns-else-start-len
+returns-else-start-len c =
+    let list = c.push_week.new.text.items in
+    let short : length list ≤ length c.args.text.now.items = omega arith in
+    let never = never_text c.args.text.now.items list c.args.ranges.now c.in_ok-push_week.ensures short in
+    subst (λ (old : List ℕ). OnOk c.extend_from_slice.result (c.extend_from_slice.new.self.items ≡ old ++ time_text c.args.ranges.now)) never.0
+    (extended c.extend_from_slice.result list c.extend_from_slice.new.self.items _ _ c.extend_from_slice.ensures.items never.1)
