@@ -18,7 +18,9 @@ use uu_names::{Path, SiteName, Word, envelope, return_path};
 use uu_plain::Machine;
 use uu_routes::{meant_host, site_routes};
 use uu_seal::{Key, KeyFault, keys_in, open, seal};
-use uu_times::{Moment, SystemDef, Timetables, Windows, Zone, read_sys, read_time, write_sys};
+use uu_times::{
+    Moment, SystemDef, Timetables, Windows, Zone, read_printed, read_sys, read_time, write_sys,
+};
 
 // ---- names
 
@@ -108,6 +110,7 @@ enum TimeCall<'a> {
     Predefined,
     Text(&'a str, &'a Timetables),
     Sys(&'a [u8]),
+    Printed(&'a [u8]),
     Write(&'a [SystemDef]),
 }
 
@@ -128,6 +131,7 @@ impl Ask for TimeCall<'_> {
                 assert!(rt; text.len() <= 4_194_304);
                 note(rt, alloc, &read_sys(alloc, text))
             }
+            TimeCall::Printed(text) => note(rt, alloc, &read_printed(alloc, text)),
             TimeCall::Write(systems) => note(rt, alloc, &write_sys(alloc, systems)),
         }
     }
@@ -135,6 +139,10 @@ impl Ask for TimeCall<'_> {
 
 /// A sys file with a fault in its last line.
 const TWICE: &[u8] = b"time Night 30\nsystem a\nsystem a\n";
+
+/// A system as it is printed.
+const PRINTED: &[u8] =
+    b"system a\nmax-retries 26\nsuccess-wait 60\ntimegrade C Wk2305-2359,Sa,Su 30\n";
 
 #[test]
 fn times(rt: HostRuntime) {
@@ -151,6 +159,7 @@ fn times(rt: HostRuntime) {
         ("read_time (a fault)", TimeCall::Text(bad, &tables)),
         ("read_sys", TimeCall::Sys(SYS_FILE)),
         ("read_sys (a fault)", TimeCall::Sys(TWICE)),
+        ("read_printed", TimeCall::Printed(PRINTED)),
         ("write_sys", TimeCall::Write(file.systems.as_slice())),
     ] {
         refuse_each_of(&rt, alloc, name, &call);

@@ -8,8 +8,9 @@ use std::fmt::Write;
 use std::io::Print;
 use std::process::Abort;
 use std::rt::Clock;
+use std::slice;
 use std::time::Instant;
-use uu_times::{Line, SysFile, SystemDef, TimeFault, read_sys};
+use uu_times::{Line, SysFile, SystemDef, TimeFault, read_printed, read_sys, write_sys};
 
 /// The most bytes of a sys file.
 const LARGEST: usize = 4_194_304;
@@ -123,6 +124,35 @@ const SHORT_FILES: [(&[u8], &str); 35] = [
 fn short_files(rt: HostRuntime) {
     for (text, want) in SHORT_FILES.as_slice() {
         expect_text(&rt, told(rt.alloc(), text), want);
+    }
+}
+
+fn shown(alloc: Global, system: &SystemDef) -> Result<String, AllocError> {
+    let mut shown = String::new(alloc);
+    show_system(&mut shown, system)?;
+    Ok(shown)
+}
+
+// What is printed of a system has to be read quickly as that system.
+fn expect_read_again(rt: &impl Abort, alloc: Global, system: &SystemDef) {
+    let printed = write_sys(alloc, slice::from_ref(system)).expect(rt, "memory");
+    let read = read_printed(alloc, printed.as_slice()).expect(rt, "memory");
+    let want = shown(alloc, system).expect(rt, "memory");
+    expect_text(
+        rt,
+        shown(alloc, &read.expect(rt, "a system")),
+        want.as_str(),
+    );
+}
+
+#[test]
+fn printed_systems_are_read_quickly(rt: HostRuntime) {
+    for (text, _) in SHORT_FILES.as_slice() {
+        if let Ok(file) = read(rt.alloc(), text) {
+            for system in file.systems.as_slice() {
+                expect_read_again(&rt, rt.alloc(), system);
+            }
+        }
     }
 }
 

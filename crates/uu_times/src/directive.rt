@@ -124,7 +124,8 @@ fn time_directive(
     timed(alloc, tables, line, lowest(), string, minutes)
 }
 
-fn lowest() -> Grade
+/// The lowest grade, `z`.
+pub(crate) fn lowest() -> Grade
     ensures { result ≡ lowest_grade }
 {
     Grade::of_rank(LOWEST).unwrap()

@@ -62,8 +62,8 @@ fn last_minute(digits: u16) -> u16
     }
 }
 
-// The first and the last day that a day word of two letters names.
-fn two_letters(first: u8, second: u8) -> Option<(u8, u8)>
+/// The first and the last day that a day word of two letters names.
+pub(crate) fn two_letters(first: u8, second: u8) -> Option<(u8, u8)>
     ensures { result ≡ two_letters first second }
 {
     match (first, second) {
