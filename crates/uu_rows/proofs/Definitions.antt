@@ -5,7 +5,7 @@ use Rattle.sqlite.specs.declared.types.Value.TheVariants.{Text, Blob}
 use Rattle.uu_names.specs.Text.{most_text}
 use Rattle.uu_times.specs.declared.fault.TimeFault.{TimeFault}
 use Rattle.uu_times.specs.declared.system.SysFile.{SysFile}
-use Rattle.uu_times.specs.Printed.{IsSystem, system_text}
+use Rattle.uu_times.specs.Printed.{IsSystem, system_text, sys_text}
 use Rattle.uu_times.specs.SysFile.{sys_file_of}
 use Rattle.uu_times.specs.System.{System}
 use Rattle.uu_times.proofs.PrintedLengths.{length-system}
@@ -19,6 +19,10 @@ kept_read def good = printed_read (def ∷ []) (All-cons IsSystem def [] good (A
 pub kept_short : (def : System) → IsSystem def → length (definition_text def) ≤ most_text
 unfolding definition_text
 kept_short def good = omega (arith, length-append (system_text def) [], length-system def good)
+
+pub kept_text : (def : System) (bytes : List ℕ) → bytes ≡ sys_text (def ∷ []) → bytes ≡ definition_text def
+unfolding definition_text
+kept_text def bytes is = is
 
 -- ---- back to the definition
 

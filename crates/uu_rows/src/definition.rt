@@ -18,7 +18,7 @@ use uu_names::laws::{grade_is_sound, name_is_sound};
 use uu_names::text::MAX_TEXT;
 use uu_tables::definition_text;
 use uu_times::laws::windows_are_sound;
-use uu_times::{Line, SysFile, SystemDef, read_sys};
+use uu_times::{Line, SysFile, SystemDef, read_printed, read_sys};
 
 fn line_is_sound(line: &Line)
     ensures { IsLine line.now }
@@ -79,14 +79,25 @@ fn if_same(def: SystemDef, text: &[u8], bytes: &[u8]) -> Result<SystemDef, RowFa
     }
 }
 
-// The definition that is kept as exactly these bytes.
-fn definition_of(alloc: Global, bytes: &[u8]) -> Result<SystemDef, RowFault>
+// The definition that is kept as exactly these bytes, read as any sys file is.
+fn definition_read(alloc: Global, bytes: &[u8]) -> Result<SystemDef, RowFault>
     ensures text { IfOk result (λ def. bytes.now ≡ definition_text def) }
     ensures bad { (def : System) → IsSystem def → NotIf result (bytes.now ≡ definition_text def) }
 {
     let def = read_kept(alloc, bytes)?;
     let text = definition_text(alloc, &def)?;
     if_same(def, text.as_slice(), bytes)
+}
+
+// The same, read quickly if it can be.
+fn definition_of(alloc: Global, bytes: &[u8]) -> Result<SystemDef, RowFault>
+    ensures text { IfOk result (λ def. bytes.now ≡ definition_text def) }
+    ensures bad { (def : System) → IsSystem def → NotIf result (bytes.now ≡ definition_text def) }
+{
+    match read_printed(alloc, bytes)? {
+        Some(def) => Ok(def),
+        None => definition_read(alloc, bytes),
+    }
 }
 
 fn if_named(def: SystemDef, name: &SiteName) -> Result<SystemDef, RowFault>
