@@ -30,10 +30,9 @@ const DAY_WORDS: [&[u8]; 9] = [
 
 /// Timetables by their names, in lower case, seen as the list of names and runs in order of the
 /// names.
-///
-/// `tables` is `None` while no other timetable was added to those that are there from the start.
 #[derive(Drop)]
 pub struct Timetables {
+    // `None` while no timetable was added to those that are there from the start.
     tables: Option<BTreeMap<SiteName, Windows>>,
 }
 
@@ -102,10 +101,8 @@ fn predefined_map(alloc: Global) -> Result<BTreeMap<SiteName, Windows>, AllocErr
 }
 
 impl Timetables {
-    /// The timetables that are there from the start: `Evening`, `Night` and `NonPeak`. They take no
-    /// memory until another is added.
-    ///
-    /// `Memory` is the only error.
+    /// The timetables that are there from the start: `Evening`, `Night` and `NonPeak`. It takes no
+    /// memory, so it never fails.
     pub fn predefined(_alloc: Global) -> Result<Timetables, TimeFault>
         ensures { AnswersUnlessMemory result (Ok predefined_tables) }
     {

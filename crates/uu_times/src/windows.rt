@@ -13,7 +13,7 @@ pub const WEEK: u16 = 10_080;
 /// local.
 ///
 /// It is kept as its maximal runs in order, each with its first and its last minute. Between two
-/// runs at least one minute isn't in the set. Systems share the runs of a timetable.
+/// runs at least one minute isn't in the set. Systems share the runs of a timetable of their file.
 #[derive(Debug, Drop)]
 pub struct Windows {
     runs: Rc<Vec<(u16, u16)>>,
