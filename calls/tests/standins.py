@@ -150,7 +150,7 @@ class StandIn:
         self._note("kill", str(job.number))
         self.parcels.pop(job.number, None)
 
-    def done(self, system: str, number: int | None = None) -> None:
+    def done(self, system: str, number: int | None = None, again: bool = True) -> None:
         self._note("done", system, *([] if number is None else [str(number)]))
 
     def ask(self, *words: str, given: bytes | int = b"") -> str:

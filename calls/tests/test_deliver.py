@@ -5,13 +5,14 @@ import time
 from functools import partial
 from unittest import mock
 
-from uuspool_calls import commands, deliver, executions, records, works
+from uuspool_calls import cli, commands, deliver, executions, records, works
 from uuspool_calls.errors import Delay, Refusal
 from uuspool_calls.files import Lock, memory_file
 from uuspool_calls.jobs import Job
-from uuspool_calls.processes import Child, Children, Program
+from uuspool_calls.processes import Child, Children, Processes, Program
 from uuspool_calls.session import Session
 from uuspool_calls.site import Site
+from uuspool_calls.spool import Spool
 
 from .standins import LINE, Folder, StandIn, parcel, site
 
@@ -228,6 +229,59 @@ class Works(Folder):
         with memory_file(b"x") as content, self.assertRaisesRegex(Delay, "rmail at mysite still works on it"):
             job = Job.read(LINE.replace("duke", "mysite"))
             deliverer._hand_over(deliverer._delivered(job, content), job)
+
+
+class Ends(Folder):
+    """A stop comes while a command ends, or while that is noted. Programs stand for the command and for that of the spool."""
+
+    STOP = "kill -TERM $(ps -o ppid= -p $PPID)"  # comes to the delivery of a command
+
+    def delivered(self, command: str, spool: str = "echo $* >>noted") -> tuple[int, str, str]:
+        """The status of a delivery in a session of its own, the words with which the spool was asked, and the tries that are kept."""
+        for name, script in ("rmail", command), ("spool", spool):
+            self.put(f"bin/{name}", f"#!/bin/sh\ncd {self.folder}\n{script}\n", 0o755)
+        self.put("etc/commands", f"rmail {self.folder}/bin/rmail\n")
+
+        def work() -> int:
+            os.setsid()
+            here = site(self.folder, StandIn([parcel(LINE.replace("duke", "mysite"))]))
+            processes = here.session.processes = Processes()
+            processes.catch_stops()
+            here.spool.done = Spool([f"{self.folder}/bin/spool"], self.folder, dict(os.environ), processes).done  # type: ignore[method-assign]
+            return cli.run(here.session, deliver.Deliverer(here).run, ["7"])
+
+        status = Child(work).wait()
+        return status, *(self.text(name) for name in ("noted", "deliver/7"))
+
+    def text(self, name: str) -> str:
+        return self.bytes_of(name).decode() if os.path.exists(f"{self.folder}/{name}") else ""
+
+    def test_one_that_ended_is_noted_though_all_processes_are_stopped(self) -> None:
+        self.assertEqual((75, "done -- mysite 7\n", ""), self.delivered("exit 0", "kill -TERM 0; echo $* >>noted"))
+
+    def test_one_that_ended_well_while_a_stop_came_is_noted(self) -> None:
+        self.assertEqual((75, "done -- mysite 7\n", ""), self.delivered(f"trap '' TERM; {self.STOP}; sleep 0.3; exit 0"))
+
+    def test_one_that_a_stop_ended_is_not_noted_and_not_refused(self) -> None:
+        for trap in "", "trap 'exit 69' TERM":
+            self.assertEqual((75, "", ""), self.delivered(f"{trap}\n{self.STOP}; sleep 100 & wait"))
+        self.assertEqual([], os.listdir(f"{self.folder}/refused"))
+
+    def test_one_that_refused_is_refused_though_a_stop_comes_then(self) -> None:
+        with mock.patch.object(deliver.Refuser, "refuse", autospec=True) as refuse:
+            refuse.side_effect = lambda its, *words: os.kill(os.getpid(), 15) or its._site.session.processes.check() or self.put("refused/it") != ""
+            self.assertEqual(75, self.delivered("exit 65")[0])
+        self.assertEqual(["it"], os.listdir(f"{self.folder}/refused"))
+
+    def test_its_end_is_noted_beside_the_spool_before_that_is_asked_again(self) -> None:
+        status, noted, _ = self.delivered("exit 0", "[ -e asked ] && cp deliver/7 noted && exit; touch asked; kill -KILL $$")
+        self.assertEqual((0, "exec rmail joe"), (status, json.loads(noted or "{}").get("came")))
+
+    def test_units_stop_no_program_that_notes_an_end(self) -> None:
+        top = f"{os.path.dirname(__file__)}/../../examples"
+        for name in "night", "expire":
+            with open(f"{top}/uuspool-{name}.service", encoding="utf-8") as file:
+                self.assertIn("KillMode=mixed\n", file.read().splitlines(keepends=True), name)
 
 
 class Senders(Folder):

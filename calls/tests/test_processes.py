@@ -151,8 +151,25 @@ class Stops(Folder):
 
     def test_what_is_short_ends_by_itself(self) -> None:
         program = Program(["sh", "-c", "touch begun; sleep 1; echo done >done"], self.folder, dict(os.environ))
-        self.assertEqual(75, self.in_child(lambda processes: processes.run(program), "begun"))
-        self.assertEqual(b"done\n", self.bytes_of("done"))
+
+        def work(processes: Processes) -> None:
+            self.put("status", str(processes.run(program).status))
+            processes.run(program)
+
+        self.assertEqual(75, self.in_child(work, "begun"))
+        self.assertEqual((b"done\n", b"0"), (self.bytes_of("done"), self.bytes_of("status")))
+
+    def test_what_is_finished_is_ended_by_no_stop_of_all(self) -> None:
+        short = Program(["sh", "-c", "kill -TERM 0; echo done >done"], self.folder, dict(os.environ))
+
+        def work(processes: Processes) -> None:
+            os.setsid()
+            with processes.finishing():
+                for program in short, self.sleeper():
+                    self.put(f"{program.limit}.status", str(processes.run(program).status))
+
+        self.assertEqual(75, self.in_child(work, "100.status"))
+        self.assertEqual((b"done\n", b"0", b"143"), tuple(map(self.bytes_of, ("done", "None.status", "100.status"))))
 
     def test_waits_are_ended(self) -> None:
         for work in (

@@ -6,8 +6,9 @@ many jobs delays no other. The next round waits for no command that takes longer
 meanwhile. A job that fails is tried again after 10 minutes, then after twice as long, at most 4 hours. After 5 days,
 or if it never can be delivered, it is refused. The status is 75 if a job can't be refused now.
 
-A command is run once, unless this is stopped between its end and the spool's note of it. Then it runs again,
-with the same $UUSPOOL_JOB, by which it may know the job."""
+A command that ended well isn't run again, also if a stop (HUP, INT, TERM) goes to all processes: its end is noted first.
+One that a stop ended runs again, and so does one whose end couldn't be noted before a kill, with the same $UUSPOOL_JOB, by
+which it may know the job."""
 import collections
 import contextlib
 import os
@@ -296,9 +297,10 @@ class Deliverer:
         except (OSError, Delay) as error:
             self._site.session.say(f"job {parcel.job.number} cannot be refused now, and waits: {error}")
             return LATER
-        if not Refuser(self._site).refuse(parcel, why, is_kept):
-            return LATER
-        records.forget(self._folder, parcel.job.number)
+        with self._site.session.processes.finishing():
+            if not Refuser(self._site).refuse(parcel, why, is_kept):
+                return LATER
+            records.forget(self._folder, parcel.job.number)
         return 0
 
     def _fail(self, parcel: Parcel, tries: records.Tries, why: str, now: int) -> int:
@@ -318,18 +320,32 @@ class Deliverer:
         except NotSent as error:
             if not tries.is_old(now):
                 return self._try_later(job, tries.after_failure(f"it is delivered, and {outcome.wishes.notify or job.user} cannot be told: {error}", now))
+        with self._site.session.processes.finishing():
+            self._note_done(job, outcome, tries)
+        return 0
+
+    def _note_done(self, job: Job, outcome: Outcome, tries: records.Tries) -> None:
+        """The spool notes that a job is delivered. If it can't, that is noted beside it before it is asked again, because this
+        may be killed meanwhile."""
         try:
-            self._site.spool.done(self._own, job.number)
-        except SpoolError as error:
-            self._note_came(job, outcome, tries)
-            raise Failure(LATER, f"job {job.number} is delivered, and that cannot be noted: {error}") from None
+            self._site.spool.done(self._own, job.number, again=False)
+        except SpoolError:
+            with contextlib.suppress(Failure):
+                self._note_came(job, outcome, tries)
+            self._ask_again(job, outcome, tries)
         self._site.log.note(self._own, job.user, job.number, outcome.how, outcome.what)
         records.forget(self._folder, job.number)
         files.remove(f"{self._folder}/{job.number}{_WORKS}")
         if outcome.is_last:
             with contextlib.suppress(Delay):  # (what stays goes after 30 days)
                 self._delivery.forget(self._delivered(job, -1))
-        return 0
+
+    def _ask_again(self, job: Job, outcome: Outcome, tries: records.Tries) -> None:
+        try:
+            self._site.spool.done(self._own, job.number)
+        except SpoolError as error:
+            self._note_came(job, outcome, tries)
+            raise Failure(LATER, f"job {job.number} is delivered, and that cannot be noted: {error}") from None
 
     def _note_came(self, job: Job, outcome: Outcome, tries: records.Tries) -> None:
         """The command of a job doesn't run again. (A file in pieces has a note of its own.)"""

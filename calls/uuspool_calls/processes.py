@@ -37,14 +37,15 @@ class Ended(NamedTuple):
 
 
 class Child:
-    """A process that runs beside this one. It begins with a function, which returns the status with which it ends."""
+    """A process that runs beside this one. It begins with a function, which returns the status with which it ends. One that
+    is shielded, and what it becomes, isn't ended by a stop of all processes."""
 
-    def __init__(self, work: Callable[[], int]) -> None:
+    def __init__(self, work: Callable[[], int], shielded: bool = False) -> None:
         # (A stop of the child mustn't be taken for one of this process, whose answer to it the child has at first.)
         before = signal.pthread_sigmask(signal.SIG_BLOCK, _STOPS)
         self.pid = os.fork()
         if self.pid == 0:
-            _end_with(work, before)
+            _end_with(work, {*before, *_STOPS} if shielded else before)
         signal.pthread_sigmask(signal.SIG_SETMASK, before)
 
     def wait(self) -> int:
@@ -126,9 +127,9 @@ class Program(NamedTuple):
             return list(self.words)
         return ["timeout", "-k", str(_GRACE), f"{self.limit:.3f}", *self.words]
 
-    def start(self, streams: Streams | None = None) -> Child:
+    def start(self, streams: Streams | None = None, shielded: bool = False) -> Child:
         """Begins it, with these streams or those of this process."""
-        return Child(lambda: self._become(streams))
+        return Child(lambda: self._become(streams), shielded)
 
     def _become(self, streams: Streams | None) -> int:
         if self.first:
@@ -204,7 +205,8 @@ class Processes:
 
     @contextlib.contextmanager
     def finishing(self) -> Iterator[None]:
-        """What is begun in this is finished, and then a stop counts. (A program with a limit is ended even so.)"""
+        """What is begun in this is finished, also if a stop goes to all processes, and then a stop counts. (A program with a
+        limit is ended even so.)"""
         self._finishes = True
         try:
             yield
@@ -226,7 +228,7 @@ class Processes:
 
     def run(self, program: Program, given: bytes | int = b"", joined: bool = False, watch: Watch | None = None) -> Ended:
         """Runs a program on these bytes, or on an open file from its beginning, and reads what it writes.
-        With `joined` its errors are in its output."""
+        With `joined` its errors are in its output. That it ended well counts, also if this is stopped meanwhile."""
         if isinstance(given, bytes):
             with memory_file(given) as handle:
                 return self.run(program, handle, joined, watch)
@@ -234,7 +236,7 @@ class Processes:
         os.lseek(given, 0, os.SEEK_SET)
         pipes = [_Pipe(program.most) for _ in range(1 if joined else 2)]
         try:
-            child = program.start((given, pipes[0].end, pipes[-1].end))
+            child = program.start((given, pipes[0].end, pipes[-1].end), self._finishes and program.limit is None)
             for pipe in pipes:
                 pipe.begin()
             # (The program has this open file, and not one of its own, so what it reads moves the place in it.)
@@ -244,18 +246,23 @@ class Processes:
         finally:
             for pipe in pipes:
                 pipe.close()
-        self.check()
+        if ended.status:
+            self.check()
         return ended
 
     def _read(self, child: Child, program: Program, pipes: Sequence[_Pipe], given: int, watch: Watch | None) -> bool:
         """Reads until the program ends. Whether it wrote too much."""
         waiting = {pipe.handle: pipe for pipe in pipes}
-        too_much = False
+        too_much = stopped = False
         # (The program may stop the `timeout` that should end it.)
         ends = time.monotonic() + program.limit + _GRACE + _MARGIN if program.limit else None
         with closing(os.pidfd_open(child.pid)) as end:
             while True:
-                wake = [] if self._stopped else [self._wake]
+                if self._stopped and not stopped:
+                    stopped = True
+                    if program.limit is not None:
+                        child.terminate()
+                wake = [] if stopped else [self._wake]
                 left = max(0, ends - time.monotonic()) if ends else None
                 ready, _, _ = select.select([*waiting, end, *wake], [], [], min(_LOOK, left or _LOOK) if watch else left)
                 if end in ready:
@@ -272,8 +279,6 @@ class Processes:
                     too_much = True
                     if program.ends_beyond:
                         child.terminate()
-                if self._wake in ready and self._stopped and program.limit is not None:
-                    child.terminate()
         for pipe in waiting.values():
             pipe.drain()
         return too_much or any(pipe.is_full() for pipe in pipes)

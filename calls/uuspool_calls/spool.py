@@ -193,10 +193,12 @@ class Spool:
             if str(error) != "refused NoJob":
                 raise
 
-    def done(self, system: str, number: int | None = None) -> None:
-        """Notes that a call was made, or that a job was delivered, which may be gone."""
+    def done(self, system: str, number: int | None = None, again: bool = True) -> None:
+        """Notes that a call was made, or that a job was delivered, which may be gone. If the spool fails, it is asked again,
+        unless the caller does so."""
+        ask = self.ask if again else self.ask_once
         try:
-            self.ask("done", "--", system, *([] if number is None else [str(number)]))
+            ask("done", "--", system, *([] if number is None else [str(number)]))
         except SpoolError as error:
             if number is None or str(error) != "refused NoJob":
                 raise
