@@ -368,6 +368,22 @@ class Small(Folder):
             self.put("etc/calls/duke", f"{line}\n")
             self.assertEqual(found, looks._calls_by_taylor(), line)
 
+    def test_a_check_asks_for_no_key_of_who_has_taylor_uucp_alone(self) -> None:
+        session = Quiet(self.folder)
+        looks = check.Check(session)
+        looks._owner, looks._own, looks._systems = pwd.getpwuid(os.geteuid()).pw_name, "mysite", frozenset(("mysite", "duke", "unc"))
+        looks._settings = looks._settings._replace(seals=f"{self.folder}/keys", path=self.put("uuspool.toml"))
+        for name, carrier in ("duke", "taylor"), ("unc", "uucico"):
+            self.put(f"lib/uuspool/carriers/{carrier}", "#!/bin/sh\n", 0o755)
+            self.put(f"etc/calls/{name}", f"{carrier}\n")
+        looks._check_seals()
+        self.assertEqual(["uuspool-setup unc seal makes a key"], [line.split(": ")[-1].split(",")[0] for line in session.printed])
+        session.printed.clear()
+        for name in "duke", "unc":
+            self.put(f"keys/{name}", "0a" * 32 + "\n", 0o600)
+        looks._check_seals()
+        self.assertEqual([f"{self.folder}/keys/duke has a key"], [line.split(",")[0] for line in session.printed])
+
     def test_what_a_check_finds_of_taylors_cleaner(self) -> None:
         os.makedirs(f"{self.folder}/public")
         os.chmod(f"{self.folder}/public", 0o1777)

@@ -68,6 +68,20 @@ class Seals(Folder):
             seals.add(self.session, settings.read(SITE.format(self.folder)), self.owner, "duke", [])
         self.assertFalse(os.path.exists(f"{self.folder}/keys"))
 
+    def test_who_has_taylor_uucp_alone_gets_no_key(self) -> None:
+        """(With one nothing of it would be taken.)"""
+        for name in "taylor", "uucico":
+            self.put(f"lib/uuspool/carriers/{name}", "#!/bin/sh\n", 0o755)
+        entry = self.put("etc/calls/duke", "taylor --no-call\n")
+        with self.assertRaisesRegex(Failure, f"duke has Taylor UUCP alone, as {entry} says, .* begin with uuspool-setup duke uucico"):
+            self.add()
+        self.assertEqual([], list(self.keys.faults("duke", True)))
+        self.add("none")
+        self.assertEqual([], list(self.keys.faults("duke", True)))
+        self.put("etc/calls/duke", "uucico\n")
+        self.add()
+        self.assertEqual([f"{self.folder}/keys/duke has a key, and duke has Taylor UUCP alone, so that nothing it sends is taken: remove it."], list(self.keys.faults("duke", True)))
+
     def test_faults_of_a_file(self) -> None:
         def only() -> str:
             (told,) = self.keys.faults("duke")

@@ -12,11 +12,11 @@ From below, each importing only what stands before it (`calls/tests/test_layers.
     session settings contacts forward journal jobs spool site
     figures monitor metrics turn copies     what operators watch, and how a site is copied
     bundle public commands pieces records works  what neighbours send, and what is kept of it
-    seals                                   the keys of neighbours
     envelope                                what mail of a neighbour begins with
     letters refusals moves exchange         what becomes of jobs
     taylor taylorsys taylorcheck wholes errands handover  Taylor UUCP, and the jobs that it has
     delivery carriers outgoing              how a job is delivered, a neighbour called, and a file queued
+    seals                                   the keys of neighbours
     traffic progress forecast               how much a call carries, and how fast
     executions                              what Taylor UUCP brings
     cli, and then the commands

@@ -8,7 +8,7 @@ from collections.abc import Callable, Sequence
 from typing import Protocol
 
 from . import files
-from .carriers import NO_CALL, entry_of
+from .carriers import BY_BUNDLES, BY_JOBS, NO_CALL, TAYLORS, entry_of
 from .errors import NOT_SET_UP, USAGE, Failure
 from .session import Session
 from .site import find_from_anywhere, owner_of
@@ -18,7 +18,6 @@ from .texts import printable
 from .values import NamedTuple
 
 _USAGE = "usage: uuspool-setup --from-taylor [-k] uucico|taylor [NAME..]"
-_CARRIERS = ("uucico", "taylor")
 _NODENAMES = ("nodename", "hostname", "uuname")
 _CONFIG, _SYS = "/etc/uucp/config", "/etc/uucp/sys"
 
@@ -59,7 +58,7 @@ def run(session: Session, words: Sequence[str], setup_of: Callable[[str], Define
     """The command. The status is 1 if something is there, and nothing was changed."""
     keeps = words[:1] == ["-k"]
     carrier, *names = (words[1:] if keeps else words) or [""]
-    if carrier not in _CARRIERS:
+    if carrier not in TAYLORS:
         raise Failure(USAGE, _USAGE)
     files_of_taylor = Files.read(session)
     for name in names:
@@ -117,7 +116,7 @@ class TakeOver:
     def tell_lost(self) -> None:
         """Prints the lines whose meaning is lost."""
         for path, file in zip(self._files.paths, self._files.files):
-            for number, line, why in file.lost(self._carrier == "uucico"):
+            for number, line, why in file.lost(self._carrier == BY_BUNDLES):
                 self._session.print(f"{path}: line {number}: {printable(line)}: its meaning is lost: {why}")
 
     def carry_out(self, names: Sequence[str], keeps: bool) -> int:
@@ -136,7 +135,7 @@ class TakeOver:
         return 1 if is_dry else 0
 
     def _plan(self, system: System, tables: Sequence[Line], setup: Definer) -> Plan:
-        calls_here, hands_jobs = system.is_never_called, self._carrier == "taylor"
+        calls_here, hands_jobs = system.is_never_called, self._carrier == BY_JOBS
         line = self._carrier if not calls_here else f"{self._carrier} {NO_CALL}" if hands_jobs else ""
         text = system.text(tables, opened=calls_here and hands_jobs)
         return Plan(system, text, line, setup.is_defined(), os.path.lexists(entry_of(self._session, system.name)))

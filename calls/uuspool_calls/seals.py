@@ -6,7 +6,7 @@ import re
 import stat
 from collections.abc import Iterator, Sequence
 
-from . import files, settings
+from . import carriers, files, settings
 from .errors import LATER, NOT_SET_UP, USAGE, Failure
 from .session import Session, acting_as, numbers_of, user_name
 
@@ -72,9 +72,13 @@ class KeyFiles:
         with files.closing(handle):
             os.fchown(handle, *numbers_of(self._owner))
 
-    def faults(self, neighbour: str) -> Iterator[str]:
-        """What is wrong with the file of a neighbour, and what to do."""
+    def faults(self, neighbour: str, has_plain_taylor: bool = False) -> Iterator[str]:
+        """What is wrong with the file of a neighbour, and what to do. One that has Taylor UUCP alone needs none."""
         path = self.path(neighbour)
+        if has_plain_taylor:
+            if self.keys(neighbour):
+                yield f"{path} has a key, and {neighbour} has Taylor UUCP alone, so that nothing it sends is taken: remove it."
+            return
         try:
             seen = os.lstat(path)
         except OSError as error:
@@ -117,6 +121,12 @@ def add(session: Session, found: settings.Settings, owner: str, name: str, words
             NOT_SET_UP,
             f'{found.path} names no folder for keys: add the line seals = "{session.etc}/seals". From then on each neighbour '
             "needs a file there, which uuspool-setup NAME seal makes",
+        )
+    if list(words) != ["none"] and carriers.has_plain_taylor(session, name):
+        raise Failure(
+            NOT_SET_UP,
+            f"{name} has Taylor UUCP alone, as {carriers.entry_of(session, name)} says, and so no bundles: with a key nothing it sends "
+            f"would be taken. If it has uuspool now, begin with uuspool-setup {name} {carriers.BY_BUNDLES}",
         )
     keys = KeyFiles(found.seals, owner, session.etc)
     if list(words) == ["none"]:

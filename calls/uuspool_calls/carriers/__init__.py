@@ -23,6 +23,7 @@ from ..texts import is_name
 from ..values import Any, NamedTuple
 from . import ssh
 
+TAYLORS = BY_BUNDLES, BY_JOBS = "uucico", "taylor"  # the carriers of Taylor UUCP, to which the second hands the jobs themselves
 NO_CALL = "--no-call"  # of the carrier `taylor`: Taylor's own schedule makes the calls
 _LEAST = 1000  # bytes of a bundle or a piece
 May = Callable[[str, int], bool]  # whether the spool's user may use a file, as os.access says it
@@ -62,15 +63,15 @@ class Carrier(NamedTuple):
 
     def answers_at_once(self, session: Session) -> bool:
         """Whether the neighbour answers within the call."""
-        return self.kind(session) not in ("folder", "uucico", "taylor")
+        return self.kind(session) not in ("folder", *TAYLORS)
 
     def is_taylors(self, session: Session) -> bool:
         """Whether Taylor UUCP makes the calls, and so brings executions."""
-        return self.kind(session) in ("uucico", "taylor")
+        return self.kind(session) in TAYLORS
 
     def hands_jobs(self, session: Session) -> bool:
         """Whether Taylor UUCP gets the jobs themselves, and no bundles go."""
-        return self.kind(session) == "taylor"
+        return self.kind(session) == BY_JOBS
 
     @property
     def leaves_calls(self) -> bool:
@@ -108,6 +109,13 @@ def find(session: Session, neighbour: str, may: May = os.access) -> Carrier:
         if may(entry, os.R_OK):
             return _named(session, neighbour, entry, may)
     raise NoCarrier(f"no readable file {entry} says how to call {neighbour}: see uuspool-setup")
+
+
+def has_plain_taylor(session: Session, neighbour: str, may: May = os.access) -> bool:
+    """Whether a neighbour has Taylor UUCP alone, so that no bundles go there or come from it."""
+    with contextlib.suppress(NoCarrier):
+        return find(session, neighbour, may).hands_jobs(session)
+    return False
 
 
 def values_of(session: Session, neighbour: str) -> dict[str, Any]:
