@@ -279,6 +279,12 @@ class Files(Folder):
             files.replace(f"{self.folder}/x", content, 0o644)
         self.assertEqual((b"of an open file", 0o644), (self.bytes_of("x"), os.stat(f"{self.folder}/x").st_mode & 0o777))
 
+    def test_a_folder_is_not_replaced(self) -> None:
+        os.mkdir(f"{self.folder}/x")
+        with self.assertRaises(IsADirectoryError) as caught:
+            files.replace(f"{self.folder}/x", b"data")
+        self.assertEqual((f"{self.folder}/x", ["x"]), (caught.exception.filename, os.listdir(self.folder)))
+
     def test_fresh(self) -> None:
         for age, minutes, fresh in (0, 1, True), (3700, 60, False), (3500, 60, True), (-86400, 60, False), (0, 0, False):
             self.assertEqual(fresh, contacts.is_fresh(int(time.time()) - age, minutes), (age, minutes))

@@ -2,7 +2,8 @@
 
 The copy has spool/, the spool's files and what is kept beside them, as they are in one turn; etc/, which is
 /etc/uuspool; the settings; and what is kept of keys elsewhere. It is made as NAME.new, written to the disk, checked,
-and only then renamed, so a copy without that ending is whole. With -k only the newest copies stay.
+and only then renamed, so a copy without that ending is whole. With -k only the newest copies stay, unless the spool of
+the new one has a fault. What is left out beside the spool, where its user may put anything, keeps no older copy.
 
 root or the spool's user runs it. Who runs it alone can enter the copy, because it has jobs and keys. What root copies
 keeps its owners."""
@@ -50,9 +51,10 @@ def run(session: Session, words: Sequence[str]) -> int:
         if kept and not backup.faults:
             copies.remove_old(found.name, int(kept))
     session.print(path)
-    for fault in backup.faults:
+    faults = [*backup.left_out, *backup.faults]
+    for fault in faults:
         session.say(f"{path}: {fault}")
-    return 1 if backup.faults else 0
+    return 1 if faults else 0
 
 
 class Place:
@@ -140,7 +142,8 @@ class Backup:
         self._owner = owner_of(found)
         if self._owner.isdecimal() and os.geteuid() == 0:
             raise Failure(NOT_SET_UP, f"{found.folder} belongs to user {self._owner}, who has no account")
-        self.faults: list[str] = []  # of the copy
+        self.faults: list[str] = []  # of the spool in the copy
+        self.left_out: list[str] = []  # what else isn't in it, and why
 
     def make(self) -> str:
         """Makes a copy, and returns its path."""
@@ -152,9 +155,9 @@ class Backup:
             with Copier([seen.st_uid], self._owner) as copier:
                 self._take_spool(spool, copier)
                 self._session.processes.check()
-                copier.finish()
+                self._finish(copier)
+            self._expect_word(spool)
             self._take_others(target)
-            self.faults += copier.left_out
             self._session.processes.check()
             self._check(f"{self._place.path}/{chosen}{_NEW}/spool")
             target.sync()
@@ -175,8 +178,11 @@ class Backup:
             for folder in _BESIDE:
                 if os.path.isdir(f"{found.folder}/{folder}"):
                     copier.take(f"{found.folder}/{folder}", target.folder(folder), _is_kept)
-        if not os.path.exists(f"{found.spool}-word"):
-            self.faults.append(f"{found.spool}-word is missing, so it has no word: see man uuspool-trouble")
+
+    def _expect_word(self, target: Target) -> None:
+        word = f"{self._settings.spool}-word"
+        if files.look(os.path.basename(word), target.handle, follows=False) is None:
+            self.faults.append(f"{word} is missing or can't be copied, so the copy has no word: see man uuspool-trouble")
 
     def _expect_no_journal(self) -> None:
         journal = f"{self._settings.spool}-journal"
@@ -206,7 +212,7 @@ class Backup:
 
     def _finish(self, copier: Copier) -> None:
         copier.finish()
-        self.faults += copier.left_out
+        self.left_out += copier.left_out
 
     def _check(self, folder: str) -> None:
         """Has the program read each row of the copy. A wrong one is in the spool, too, and no reason to have no copy. (The

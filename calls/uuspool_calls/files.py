@@ -65,7 +65,11 @@ def replace(path: str, data: bytes | int, mode: int = 0o600) -> None:
         else:
             copy_all(data, handle)
         os.fsync(handle)
-    os.replace(new, path)
+    try:
+        os.replace(new, path)
+    except OSError as error:
+        remove(new)
+        raise OSError(error.errno, error.strerror, path) from None
     sync_folder(folder)
 
 
