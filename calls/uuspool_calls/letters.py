@@ -38,10 +38,11 @@ class Letter(NamedTuple):
             "",
             self.why,
             "",
-            f"It {'was queued at' if job.number else 'came to'} {own} on {job.day} at {job.hour}{f' as job {job.number}' if job.number else ''}."
-            + (" It begins:" if data else ""),
         ]
-        return "\n".join([*head, *([""] if data else []), *map("> {}".format, _beginning(data))]).encode() + b"\n"
+        moment = f"{own} on {job.day} at {job.hour}"
+        came = f"It was queued at {moment} as job {job.number}." if job.number else f"It came to {moment}."
+        lines = [*head, f"{came} It begins:", "", *(f"> {line}" for line in _beginning(data))] if data else [*head, came]
+        return "\n".join(lines).encode() + b"\n"
 
 
 def _head(own: str, user: str, subject: str) -> list[str]:

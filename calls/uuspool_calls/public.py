@@ -9,7 +9,7 @@ import contextlib
 import errno
 import os
 import stat
-from collections.abc import Iterator, Sequence
+from collections.abc import Callable, Iterator, Sequence
 
 from . import clock
 from .errors import Delay, Refusal
@@ -58,13 +58,14 @@ def _plain(folder: str) -> str:
 
 
 @contextlib.contextmanager
-def found(path: str, owner: int) -> Iterator[int]:
-    """The folder of a path, opened so that others can be opened in it. Delay if somebody besides root and the owner may
-    put something else in its place: the next file would come there, and one from there would be sent."""
+def found(path: str, owner: int, is_enough: Callable[[os.stat_result], bool] = lambda folder: False) -> Iterator[int]:
+    """The folder of a path, opened so that others can be opened in it, or the first one on the way that is enough. Delay if
+    somebody besides root and the owner may put something else in its place: the next file would come there, and one from
+    there would be sent."""
     with closing(os.open("/", _PASS_FOLDER)) as root:
         at, links, names = os.dup(root), 0, path.split("/")[::-1]
         try:
-            while names:
+            while names and not is_enough(os.fstat(at)):
                 name = names.pop()
                 if name in ("", "."):
                     continue
