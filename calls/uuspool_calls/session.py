@@ -27,15 +27,13 @@ class Session:
         self.processes = Processes()
 
     def say(self, sentence: str) -> None:
-        """Prints a sentence as an error, whole. (A carrier has no name: its last line says why a call failed.) A name in it
-        may be the spool's user's, and root's terminal mustn't obey it."""
+        """Prints a sentence as an error, whole. (A carrier has no name: its last line says why a call failed.)"""
         head = f"{self.name}: " if self.name else ""
-        plain = "".join(it if it.isprintable() else "?" for it in sentence)
-        os.write(2, f"{head}{plain}\n".encode())
+        os.write(2, f"{head}{_shown(sentence)}\n".encode())
 
     def print(self, line: str) -> None:
         """Prints a line."""
-        os.write(1, f"{line}\n".encode(errors="surrogateescape"))
+        os.write(1, f"{_shown(line)}\n".encode())
 
     def setting(self, name: str, otherwise: int) -> int:
         """A number of the environment."""
@@ -88,6 +86,11 @@ class Session:
             return os.access(path, mode)
         letter = {os.R_OK: "-r", os.W_OK: "-w", os.X_OK: "-x"}[mode]
         return self.run_as(owner, ["test", letter, path]).status == 0
+
+
+def _shown(line: str) -> str:
+    """What is printed of a line. A name in it may be the spool's user's, and root's terminal mustn't obey it."""
+    return "".join(it if it.isprintable() else "?" for it in line)
 
 
 def user_name(number: int) -> str:
