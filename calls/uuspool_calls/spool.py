@@ -196,9 +196,12 @@ class Spool:
     def done(self, system: str, number: int | None = None, again: bool = True) -> None:
         """Notes that a call was made, or that a job was delivered, which may be gone. If the spool fails, it is asked again,
         unless the caller does so."""
-        ask = self.ask if again else self.ask_once
+        line = ["done", "--", system, *([] if number is None else [str(number)])]
         try:
-            ask("done", "--", system, *([] if number is None else [str(number)]))
+            if again:
+                self.ask(*line)
+            else:
+                self.ask_once(*line)
         except SpoolError as error:
             if number is None or str(error) != "refused NoJob":
                 raise
