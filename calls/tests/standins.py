@@ -2,6 +2,7 @@
 import os
 import shutil
 import tempfile
+import time
 import unittest
 from collections.abc import Callable, Sequence
 
@@ -63,6 +64,13 @@ class Folder(unittest.TestCase):
         """What a file below the folder has."""
         with open(f"{self.folder}/{path}", "rb") as file:
             return file.read()
+
+    def expect_end(self, process: int) -> None:
+        """A process that isn't ours ends, or has ended."""
+        ends = time.monotonic() + 30
+        while os.path.exists(f"/proc/{process}/exe"):
+            self.assertLess(time.monotonic(), ends)
+            time.sleep(0.01)
 
 
 class Quiet(Session):

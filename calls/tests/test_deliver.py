@@ -222,6 +222,27 @@ class Works(Folder):
             self.put("7.works", text)
             self.assertFalse(works.is_so(path), text)
 
+    def test_what_is_left_of_a_command_is_ended(self) -> None:
+        """Both the delivery and `timeout` were killed, so that nothing else would end it."""
+        path, ready = f"{self.folder}/7.works", f"{self.folder}/ready"
+        nothing = os.open(os.devnull, os.O_RDWR)
+        child = Program(["sh", "-c", f"echo $$ >{ready}; sleep 100"], "", dict(os.environ), 100, first=partial(works.note, path)).start((nothing, nothing, nothing))
+        os.close(nothing)
+        while not (os.path.exists(ready) and self.bytes_of("ready")):
+            time.sleep(0.01)
+        number = int(self.bytes_of("ready"))
+        works.end_left(path)
+        self.assertTrue(works.is_so(path))
+        child.kill()
+        child.wait()
+        leader, begun = self.bytes_of("7.works").split(b" ", 1)
+        for text in leader + b" x" + begun, leader, b"0 " + begun, b"1 " + begun:
+            self.put("other", text)
+            works.end_left(f"{self.folder}/other")
+        os.kill(number, 0)
+        works.end_left(path)
+        self.expect_end(number)
+
     def test_a_job_on_which_a_command_works_waits(self) -> None:
         self.put("etc/commands", "rmail /r\n")
         deliverer = deliver.Deliverer(site(self.folder, StandIn()))

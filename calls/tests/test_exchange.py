@@ -11,7 +11,7 @@ from uuspool_calls.exchange import Neighbour, NoBundle, NotTaken, expect_size
 from uuspool_calls.jobs import Job
 from uuspool_calls.letters import Letter, Mailroom, NotSent, at_home
 from uuspool_calls.processes import Ended
-from uuspool_calls.refusals import Kept, Refuser, forget_old, forget_warnings, has_untold, is_time_to_look, tell, warn
+from uuspool_calls.refusals import Kept, Refuser, forget_excess, forget_old, forget_warnings, has_untold, is_time_to_look, tell, warn
 from uuspool_calls.spool import Refused, Settled, Unpacked
 
 from .standins import LINE, Folder, Mailer, StandIn, parcel, site
@@ -248,6 +248,8 @@ class Refusing(Folder):
         tell(self.site)
         self.site.session.environment |= {"UUSPOOL_REFUSED_DAYS": "40000", "UUSPOOL_REFUSED_MEGABYTES": "1"}
         forget_old(self.site)
+        self.assertEqual(4, sum(it[0] != "." for it in os.listdir(f"{self.folder}/refused")))
+        forget_excess(self.site)
         kept = sorted(it for it in os.listdir(f"{self.folder}/refused") if it[0] != ".")
         self.assertEqual(["2", "3", "4"], kept)
         self.site.session.environment["UUSPOOL_REFUSED_DAYS"] = "30"

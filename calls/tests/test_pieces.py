@@ -71,7 +71,7 @@ class Arrivals(Folder):
         self.site = site(self.folder, StandIn(), **places, UUSPOOL_COMMAND_LIMIT="5")
         self.session = self.site.session
         self.session.processes = type(self.session.processes).__mro__[1]()
-        self.delivery = Delivery(self.session, "mysite", (self.folder, f"{self.folder}/refused"), self.session.environment)
+        self.delivery = Delivery(self.session, "mysite", (self.folder, f"{self.folder}/refused"), self.session.environment, self.fail, ["mysite", "b"].__contains__)
         self.number = 0
 
     def job(self, words: tuple[str, ...], content: int, user: str = "a!ann") -> Delivered:
@@ -108,6 +108,15 @@ class Coming(Arrivals):
             self.assertEqual([["about"]], self.kept())
             shutil.rmtree(f"{self.folder}/pieces")
             os.remove(f"{self.folder}/public/a/in/x")
+
+    def test_no_file_of_this_site_comes_where_those_of_a_neighbour_will(self) -> None:
+        whole = Delivered("send", ("/x", "~/b/x"), -1, "", "ann", "mysite!1!2026-11-28.10:00:00")
+        with memory_file(b"x") as content:
+            for job in whole, whole._replace(kind="exec", words=words_of(DATA, 0, "send", "/x", "~/b/x")):
+                with self.assertRaisesRegex(Refusal, "~/b/x is where files of b come to mysite"):
+                    self.delivery.deliver(job._replace(content=content))
+            for path in "~/b", "~/mysite/x", "~/c/b/x":
+                self.delivery.deliver(whole._replace(content=content, words=("/x", path)))
 
     def test_no_more_is_kept_than_came(self) -> None:
         for at in 2000, 0, 1000:
@@ -339,7 +348,7 @@ class Refused(Arrivals):
             self.put(f"refused/{name}", b"no\n" + LINE.replace("ann", "a!ann").encode() + b"\n" + bytes(700_000))
             os.utime(f"{self.folder}/refused/{name}", (86400 * int(name),) * 2)
         self.session.environment |= {"UUSPOOL_REFUSED_DAYS": "40000", "UUSPOOL_REFUSED_MEGABYTES": "0"}
-        refusals.forget_old(self.site)
+        refusals.forget_excess(self.site)
         self.assertEqual(1, len([it for it in os.listdir(f"{self.folder}/refused") if it[0] != "."]))
         self.session.environment["UUSPOOL_REFUSED_DAYS"] = "0"
         os.utime(f"{self.folder}/refused/{[it for it in os.listdir(f'{self.folder}/refused') if it[0] != '.'][0]}", (0, 0))

@@ -138,6 +138,16 @@ class Stops(Folder):
         number = int(self.bytes_of("pid"))
         self.assertFalse(os.path.exists(f"/proc/{number}/exe"))
 
+    def test_what_kills_its_timeout_is_ended(self) -> None:
+        program = Program(["sh", "-c", f"echo $$ >{self.folder}/pid; kill -KILL $PPID; sleep 1000"], self.folder, dict(os.environ), 100)
+        self.assertEqual(137, Processes().run(program).status)
+        self.expect_end(int(self.bytes_of("pid")))
+
+    def test_what_leaves_a_daemon_and_ends_by_itself_leaves_it(self) -> None:
+        program = Program(["sh", "-c", f"sleep 1000 & echo $! >{self.folder}/pid; exit 3"], self.folder, dict(os.environ), 100)
+        self.assertEqual(3, Processes().run(program).status)
+        os.kill(int(self.bytes_of("pid")), signal.SIGKILL)
+
     def test_a_signal_that_is_ignored_ends_nothing(self) -> None:
         def work(processes: Processes) -> None:
             os.kill(os.getpid(), signal.SIGHUP)

@@ -150,6 +150,18 @@ class Public(Folder):
         self.assertEqual(["~/x", "~/x.2", "~/x.2", "~/x", "~/x.2"], names)
         self.assertEqual(["new", "", "new", "new", "", "new"], [self.bytes_of(it).decode() for it in ("own/x", "shared/x", "shared/x.2", "common/gem/x", "common/x", "common/x.2")])
 
+    def test_nothing_comes_where_files_of_another_come(self) -> None:
+        with memory_file(b"x") as content:
+            for name in "duke", "gem":
+                public.Public(f"{self.folder}/public", "mysite", name).put("~/x", content)
+            table = self.put("etc/public", f"unc {self.folder}/public/for-unc\nphs {self.folder}/public")
+            for sender, paths in ("", ("~/duke/y", "~/duke/a/y", "~/for-unc/y")), ("phs", ("~/gem/y", "~/for-unc/a/y")):
+                for path in paths:
+                    with self.assertRaisesRegex(Refusal, f"{path} is where files of another one come"):
+                        public.find(f"{self.folder}/public", table, sender, "mysite").put(path, content)
+            self.assertEqual("~/a/y", public.find(f"{self.folder}/public", table, "", "mysite").put("~/a/y", content))
+        self.assertEqual([".uuspool", "x"], sorted(os.listdir(f"{self.folder}/public/duke")))
+
     def test_nothing_of_another_is_replaced(self) -> None:
         self.put("public/there", "ann's")
         os.mkfifo(f"{self.folder}/public/fifo")

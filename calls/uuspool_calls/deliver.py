@@ -34,6 +34,7 @@ _LOCK, _WORKS = ".lock", ".works"  # of a job, behind its number
 _MARGIN = 15  # seconds until a command that is ended has ended
 _TAKING = 30  # seconds for which a round waits for what neighbours brought
 _ROUND = 300  # seconds after which a round begins no more deliveries
+_AT_A_LOOK = 64  # deliveries, after which it is looked again how much was refused
 _MOST_FETCHED = 64  # MiB that wait for a neighbour, above which it fetches nothing more
 _MOST_JOBS = 5000  # that wait for it
 _PATIENCE = 5  # seconds for another file that it fetches
@@ -117,8 +118,11 @@ def _deliver_all(site: Site, deliverer: "Deliverer", numbers: Sequence[int], loc
             if clock.running() >= ends or not children.has_place(usual):
                 site.session.say(f"{len(numbers) - begun} jobs wait for the next round")
                 break
+            if begun % _AT_A_LOOK == 0:
+                refusals.forget_excess(site)
             children.start(partial(_delivery, site.session, deliverer, number), number)
         children.wait(usual)
+        refusals.forget_excess(site)
         lock.give_back()
         children.wait()
     return children.ended
@@ -196,7 +200,7 @@ class Deliverer:
         self._site, self._own = site, site.own
         self._folder = f"{site.folder}/deliver"
         folders, environment = (site.folder, f"{site.folder}/refused"), {**site.environment, "UUSPOOL_HERE": self._own}
-        self._delivery = Delivery(site.session, self._own, folders, environment, hand_on=self._hand_on)
+        self._delivery = Delivery(site.session, self._own, folders, environment, self._hand_on, self._is_system)
 
     def run(self, session: Session, words: Sequence[str]) -> int:
         """Tries the jobs with these numbers."""
@@ -247,6 +251,7 @@ class Deliverer:
             return Outcome(job.what)
         if works.is_so(delivered.working):
             raise Delay(f"{job.words[0]} at {self._own} still works on it, though what began it was ended")
+        works.end_left(delivered.working)
         return self._delivery.deliver(delivered)
 
     def _send_file(self, job: Delivered, words: Sequence[str]) -> None:
@@ -270,6 +275,12 @@ class Deliverer:
             raise Delay(f"{path} cannot be sent from {self._own} now: {error}") from None
         if there.jobs and (there.bytes + size > most << 20 or there.jobs >= _MOST_JOBS):
             raise Delay(f"{there.jobs} jobs of {there.bytes} bytes wait for {sender}, so it gets {path} once some of them went")
+
+    def _is_system(self, name: str) -> bool:
+        try:
+            return bool(self._site.spool.systems(name))
+        except SpoolError as error:
+            raise Delay(f"it cannot be asked at {self._own} whether {name} is a system: {error}") from None
 
     def _hand_on(self, system: str, job: Delivered) -> None:
         self._queue(system, job, "onward")

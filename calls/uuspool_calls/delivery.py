@@ -26,16 +26,17 @@ class Outcome(NamedTuple):
 
 
 HandOn = Callable[[str, Delivered], None]  # queues a command for a system
+IsSystem = Callable[[str], bool]  # whether a name is that of a system
 
 
 class Delivery:
     """Delivers jobs at a site, from the folder in which it works. What is refused of files that come in pieces goes to
     another one. Mail that was too large for the spool to hand on is handed on here."""
 
-    def __init__(self, session: Session, own: str, folders: tuple[str, str], environment: Mapping[str, str], hand_on: HandOn | None = None) -> None:
+    def __init__(self, session: Session, own: str, folders: tuple[str, str], environment: Mapping[str, str], hand_on: HandOn, is_system: IsSystem) -> None:
         self._session, self._own, self._environment = session, own, environment
         self._folder, self._refused = folders
-        self._hand_on = hand_on
+        self._hand_on, self._is_system = hand_on, is_system
         self._limit = session.command_limit
 
     def deliver(self, job: Delivered) -> Outcome:
@@ -55,6 +56,8 @@ class Delivery:
             raise Refusal(f"{job.sender}, from which it came, is no name of a neighbour")
         if job.kind == "send" and len(job.words) >= 2:
             public.expect_inside(job.words[1], self._own)
+            if not job.sender:
+                self._expect_of_nobody(job.words[1])
             if notify := Wishes.read(job.words[2:]).notify:
                 if job.sender and "!" in notify.removeprefix(f"{self._own}!"):
                     raise Refusal(f"{self._own} writes to its own users that a file came, not to {notify}")
@@ -68,6 +71,12 @@ class Delivery:
             self._expect_allowed(job._replace(kind=kind, words=tuple(words)))
         else:
             self._command(job)
+
+    def _expect_of_nobody(self, path: str) -> None:
+        """Refusal of a file of this site's users where those of a neighbour are to come."""
+        first, *rest = path.removeprefix("~/").split("/")
+        if rest and first != self._own and is_name(first) and self._is_system(first):
+            raise Refusal(f"{path} is where files of {first} come to {self._own}, and no others")
 
     def _expect_forwarded(self, sender: str, addresses: Sequence[str]) -> None:
         if sender:
@@ -152,7 +161,7 @@ class Delivery:
     def _run(self, job: Delivered) -> None:
         name, *words = job.words
         command = self._command(job)
-        if self._hand_on and job.sender and name == MAIL and (hop := forward.next_hop(f"{self._session.etc}/forward", job.sender, words)):
+        if job.sender and name == MAIL and (hop := forward.next_hop(f"{self._session.etc}/forward", job.sender, words)):
             rest = [word.removeprefix(f"{hop}!") for word in words]
             if odd := next((word for word in rest if word.startswith("-")), None):
                 raise Refusal(f"{odd}, which is no user of {hop}, would be an option there")

@@ -63,6 +63,19 @@ class Child:
         with contextlib.suppress(ProcessLookupError):
             os.kill(self.pid, signal.SIGKILL)
 
+    def end_group(self) -> None:
+        """Ends the processes of its group, once it has ended by a signal itself. (Before it is waited for, nobody else gets its
+        number.)"""
+        ended = os.waitid(os.P_PID, self.pid, os.WEXITED | os.WNOWAIT)
+        if ended and ended.si_code != os.CLD_EXITED:
+            kill_group(self.pid)
+
+
+def kill_group(number: int) -> None:
+    """Ends the processes of a group, if there are any."""
+    with contextlib.suppress(ProcessLookupError, PermissionError):
+        os.killpg(number, signal.SIGKILL)
+
 
 def _end_with(work: Callable[[], int], mask: Iterable[int]) -> None:
     status = 1
@@ -241,6 +254,8 @@ class Processes:
                 pipe.begin()
             # (The program has this open file, and not one of its own, so what it reads moves the place in it.)
             too_much = self._read(child, program, pipes, given, watch)
+            if program.limit is not None:  # (`timeout`, which the program may have killed, began a group)
+                child.end_group()
             errors = b"" if joined else bytes(pipes[1].bytes)
             ended = Ended(child.wait(), bytes(pipes[0].bytes), errors, too_much, os.lseek(given, 0, os.SEEK_CUR))
         finally:

@@ -133,6 +133,7 @@ class Public:
             with self._place() as at, contextlib.ExitStack() as on_the_way:
                 for folder in folders:
                     at = on_the_way.enter_context(_entered(at, folder))
+                    self._expect_ours(at, path)
                 with _New(at, content) as new:
                     named = new.take(name, self._is_alone)
         except _LeadsOut:
@@ -140,6 +141,11 @@ class Public:
         except OSError as error:
             raise Delay(f"{path} cannot be written below {self._folder}: {error.strerror}") from None
         return f"{path.removesuffix(name)}{named}"
+
+    def _expect_ours(self, folder: int, path: str) -> None:
+        """Refusal of a path that leads to where files of another one come, because it would look as if that had brought it."""
+        if _place_of(folder) in self._others or (not self._neighbour and _is_marked(folder)):
+            raise Refusal(f"{path} is where files of another one come than of whoever sent it to {self._own}")
 
     @property
     def place(self) -> str:

@@ -220,19 +220,32 @@ def is_time_to_look(site: Site) -> bool:
 
 
 def forget_old(site: Site) -> None:
-    """Removes what was refused long ago, and the oldest of a sender that fills the disk."""
-    folder = f"{site.folder}/refused"
+    """Removes what was refused long ago."""
     oldest = time.time() - site.session.setting("UUSPOOL_REFUSED_DAYS", _DAYS) * _DAY
+    for path, written, _ in newest_first(f"{site.folder}/refused"):
+        if written < oldest:
+            _remove(path)
+
+
+def forget_excess(site: Site) -> None:
+    """Removes the oldest of a sender that fills the disk, but not the newest."""
     most = site.session.setting("UUSPOOL_REFUSED_MEGABYTES", _MEGABYTES) << 20
+    found = newest_first(f"{site.folder}/refused")
+    if sum(size for _, _, size in found) <= most:  # (Reading whose they are takes longer.)
+        return
     sums: collections.Counter[str] = collections.Counter()
-    for path, written, size in newest_first(folder):
+    for path, _, size in found:
         kept = Kept.read(path)
         sender = kept.job.sender if kept else ""
         is_newest = not sums[sender]
         sums[sender] += size
-        if written < oldest or (sums[sender] > most and not is_newest):
-            with contextlib.suppress(OSError):
-                files.remove_folder(path) if os.path.isdir(path) else os.remove(path)
+        if sums[sender] > most and not is_newest:
+            _remove(path)
+
+
+def _remove(path: str) -> None:
+    with contextlib.suppress(OSError):
+        files.remove_folder(path) if os.path.isdir(path) else os.remove(path)
 
 
 def newest_first(folder: str) -> list[tuple[str, float, int]]:

@@ -5,6 +5,7 @@ import os
 
 from . import clock
 from .files import opened, read_bytes, write_all
+from .processes import kill_group
 
 _BEGUN = 19  # the place of the time behind the name of the process
 
@@ -17,8 +18,23 @@ def note(path: str) -> None:
 
 def is_so(path: str) -> bool:
     """Whether the process that a file names still works."""
+    number, begun = _named(path)
+    return begun != b"" and begun == _begun(number)
+
+
+def end_left(path: str) -> None:
+    """Ends what works in the group of the process that a file names, if that process, which would have ended it, is gone.
+    (While there is such a group, no new process gets its number.)"""
+    number, begun = _named(path)
+    if begun.split(b" ")[0] == clock.boot().encode() and not os.path.exists(f"/proc/{number}"):
+        kill_group(number)
+
+
+def _named(path: str) -> tuple[int, bytes]:
+    """The number of the process that a file names, and when that began; nothing if the file names none. (0 is this process's
+    own group, and 1 everybody's.)"""
     number, _, begun = (read_bytes(path) or b"").partition(b" ")
-    return number.isdigit() and begun != b"" and begun == _begun(int(number))
+    return (int(number), begun) if number.isdigit() and int(number) > 1 else (0, b"")
 
 
 def _begun(process: int) -> bytes:
