@@ -256,6 +256,17 @@ class Refusing(Folder):
         forget_old(self.site)
         self.assertEqual([".lock"], os.listdir(f"{self.folder}/refused"))
 
+    def test_nothing_goes_before_its_user_was_told(self) -> None:
+        for number, user in enumerate(("ann", "ann", "bob", "duke!x", "duke!y"), 1):
+            Refuser(self.site).refuse(parcel(LINE.replace("7", str(number), 1).replace("ann", user)), "no")
+            os.utime(f"{self.folder}/refused/{number}.untold", (number * 86400,) * 2)
+        self.site.session.environment |= {"UUSPOOL_REFUSED_MEGABYTES": "0"}
+        with mock.patch("uuspool_calls.refusals.tell"):
+            self.assertFalse(forget_excess(self.site))
+        self.assertEqual(5, sum(it.endswith(".untold") for it in os.listdir(f"{self.folder}/refused")))
+        self.assertTrue(forget_excess(self.site))
+        self.assertEqual(["2", "3", "5"], sorted(it for it in os.listdir(f"{self.folder}/refused") if it[0] != "."))
+
     def test_when_it_is_looked_how_old_things_are(self) -> None:
         looked = []
         for hours in 0, 0.5, 1.6, 10 * 8766, 10 * 8766 + 0.5, 10 * 8766 + 1.6, 3, 3.5, 4.1, 500, 1300:

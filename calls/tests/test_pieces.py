@@ -115,8 +115,10 @@ class Coming(Arrivals):
             for job in whole, whole._replace(kind="exec", words=words_of(DATA, 0, "send", "/x", "~/b/x")):
                 with self.assertRaisesRegex(Refusal, "~/b/x is where files of b come to mysite"):
                     self.delivery.deliver(job._replace(content=content))
-            for path in "~/b", "~/mysite/x", "~/c/b/x":
+            for path in "~/mysite/x", "~/c/b/x":
                 self.delivery.deliver(whole._replace(content=content, words=("/x", path)))
+            with self.assertRaisesRegex(Refusal, "~/b is where files of b come to mysite"):
+                self.delivery.deliver(whole._replace(content=content, words=("/x", "~/b")))
 
     def test_no_more_is_kept_than_came(self) -> None:
         for at in 2000, 0, 1000:
@@ -353,7 +355,7 @@ class Refused(Arrivals):
         self.session.environment["UUSPOOL_REFUSED_DAYS"] = "0"
         os.utime(f"{self.folder}/refused/{[it for it in os.listdir(f'{self.folder}/refused') if it[0] != '.'][0]}", (0, 0))
         refusals.forget_old(self.site)
-        self.assertEqual([], os.listdir(f"{self.folder}/refused"))
+        self.assertEqual([".lock"], os.listdir(f"{self.folder}/refused"))
 
 
 class Letters(Refused):

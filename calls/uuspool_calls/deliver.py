@@ -118,8 +118,9 @@ def _deliver_all(site: Site, deliverer: "Deliverer", numbers: Sequence[int], loc
             if clock.running() >= ends or not children.has_place(usual):
                 site.session.say(f"{len(numbers) - begun} jobs wait for the next round")
                 break
-            if begun % _AT_A_LOOK == 0:
-                refusals.forget_excess(site)
+            if begun and begun % _AT_A_LOOK == 0 and not refusals.forget_excess(site):
+                site.session.say(f"{len(numbers) - begun} jobs wait for the next round, because more was refused than is kept, and nobody can be told")
+                break
             children.start(partial(_delivery, site.session, deliverer, number), number)
         children.wait(usual)
         refusals.forget_excess(site)

@@ -74,8 +74,8 @@ class Delivery:
 
     def _expect_of_nobody(self, path: str) -> None:
         """Refusal of a file of this site's users where those of a neighbour are to come."""
-        first, *rest = path.removeprefix("~/").split("/")
-        if rest and first != self._own and is_name(first) and self._is_system(first):
+        first = path.removeprefix("~/").split("/")[0]
+        if first != self._own and is_name(first) and self._is_system(first):
             raise Refusal(f"{path} is where files of {first} come to {self._own}, and no others")
 
     def _expect_forwarded(self, sender: str, addresses: Sequence[str]) -> None:

@@ -227,20 +227,32 @@ def forget_old(site: Site) -> None:
             _remove(path)
 
 
-def forget_excess(site: Site) -> None:
-    """Removes the oldest of a sender that fills the disk, but not the newest."""
+def forget_excess(site: Site) -> bool:
+    """Removes the oldest of a neighbour or a local user that fills the disk, but not the newest. Nothing is removed before its
+    user was told: whether nothing waits for that."""
     most = site.session.setting("UUSPOOL_REFUSED_MEGABYTES", _MEGABYTES) << 20
-    found = newest_first(f"{site.folder}/refused")
-    if sum(size for _, _, size in found) <= most:  # (Reading whose they are takes longer.)
-        return
+    folder = f"{site.folder}/refused"
+    if _size(newest_first(folder)) <= most:  # (Reading whose they are takes longer.)
+        return True
+    tell(site, at_once=False)
     sums: collections.Counter[str] = collections.Counter()
-    for path, _, size in found:
+    all_told = True
+    for path, _, size in newest_first(folder):
         kept = Kept.read(path)
-        sender = kept.job.sender if kept else ""
-        is_newest = not sums[sender]
-        sums[sender] += size
-        if sums[sender] > most and not is_newest:
+        who = kept.who if kept else ""
+        is_newest = not sums[who]
+        sums[who] += size
+        if sums[who] <= most or is_newest:
+            continue
+        if path.endswith(UNTOLD):
+            all_told = False
+        else:
             _remove(path)
+    return all_told
+
+
+def _size(found: Sequence[tuple[str, float, int]]) -> int:
+    return sum(size for _, _, size in found)
 
 
 def _remove(path: str) -> None:
