@@ -123,6 +123,25 @@ class Taking(Folder):
         self.assertEqual(2, self.neighbour.take(TEXT).requeued)
         self.assertEqual(100 + 8 + 1, self.spool.next)
 
+    def stale(self, neighbour: Neighbour) -> tuple[int, list[str]]:
+        """How many numbers are gone after a bundle that says Stale for the newest job, and what is said."""
+        self.spool.settled = Settled((), (Refused(max(self.spool.parcels), "Stale"),))
+        faults = neighbour.take(TEXT).faults
+        return self.spool.next - 100, faults
+
+    def test_a_call_has_so_many_new_numbers(self) -> None:
+        """However many bundles say Stale."""
+        with mock.patch("uuspool_calls.exchange._MOST_NUMBERS", 20):
+            neighbour = Neighbour(self.site, "duke", ["unc"])
+        found = [self.stale(neighbour) for _ in range(6)]
+        said = ["duke refuses job 120 (Stale), and the next call queues it anew"]
+        self.assertEqual([(1, []), (3, []), (7, []), (15, []), (20, said), (20, said)], found)
+
+    def test_a_call_that_is_over_queues_nothing_anew(self) -> None:
+        answers = iter((False, False, True, True))
+        neighbour = Neighbour(self.site, "duke", ["unc"], is_over=lambda: next(answers))
+        self.assertEqual([(1, 0), (2, 1), (2, 1)], [(numbers, len(faults)) for numbers, faults in (self.stale(neighbour) for _ in range(3))])
+
     def test_a_refused_job_that_somebody_removed_is_no_fault(self) -> None:
         self.spool.settled = Settled((), (Refused(9, "Differs"), Refused(9, "TooLarge")))
         self.assertEqual([], self.neighbour.take(TEXT).faults)

@@ -136,7 +136,7 @@ class Call:
         self._site, self._order, self._carrier = site, order, carrier
         self._contact = site.contacts.find(order.neighbour)
         self._most = carrier.most or (self._contact.most if carrier.answers_at_once(site.session) else 0)
-        self._neighbour = Neighbour(site, order.neighbour, site.onward(order.neighbour), self._most)
+        self._neighbour = Neighbour(site, order.neighbour, site.onward(order.neighbour), self._most, self._is_over)
         self._limit = carrier.limit or site.session.call_limit
         self._ends = clock.running() + self._limit
         self._closes = float("inf")  # when no exchange begins any more
@@ -247,6 +247,10 @@ class Call:
             self._why = self._why or f"{self._carrier.program} wrote more than {bundle.MOST} bytes of errors, and was ended"
         elif ended.status:
             self._why = self._explained(ended)
+
+    def _is_over(self) -> bool:
+        """Whether the call had its time."""
+        return clock.running() >= self._ends
 
     def _explained_limit(self) -> str:
         if self._closes < float("inf"):

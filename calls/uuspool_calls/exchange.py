@@ -2,7 +2,7 @@
 
 A line of the program that would do nothing isn't run, and two of which the log would say nothing are one batch, since
 each program takes time."""
-from collections.abc import Sequence
+from collections.abc import Callable, Sequence
 from contextlib import suppress
 
 from . import bundle, files
@@ -12,6 +12,7 @@ from .spool import Line, Queued, Refused, Settled, Unpacked
 from .texts import one_line, plain
 
 _MOST_DOUBLINGS = 10
+_MOST_NUMBERS = 2048  # that jobs get anew in one call
 _NEVER_TAKEN = ("NoBundle", "OtherSender", "OtherSite", "NotSealed", "WrongKey")  # what the program calls such a text
 _MOST_WAITING = 5000  # jobs of a neighbour that wait here, above which no more are taken
 
@@ -69,13 +70,13 @@ def expect_size(neighbour: str, text: bytes) -> None:
 
 class Neighbour:
     """A neighbour, of which bundles are taken, and for which ours are made, each of so many bytes at most, if that isn't 0.
-    Mail from it is handed on to some systems."""
+    Mail from it is handed on to some systems. What it refuses gets new numbers until the call is over."""
 
-    def __init__(self, site: Site, name: str, onward: Sequence[str], most: int = 0) -> None:
-        self._site, self._name, self._onward = site, name, list(onward)
+    def __init__(self, site: Site, name: str, onward: Sequence[str], most: int = 0, is_over: Callable[[], bool] = lambda: False) -> None:
+        self._site, self._name, self._onward, self._is_over = site, name, list(onward), is_over
         self._bound = bundle.bound(most)
         self._waits = f"{site.folder}/calls/{name}.waits"
-        self._bundles_with_stale = 0
+        self._bundles_with_stale, self._numbers_left = 0, _MOST_NUMBERS
 
     # ---- making bundles
 
@@ -219,10 +220,13 @@ class Neighbour:
         number, user, said = refused.number, "", ""
         try:
             for _ in range(times):
+                if not self._numbers_left or self._is_over():
+                    taken.faults.append(f"{self._name} refuses job {number} ({refused.reason}), and the next call queues it anew")
+                    break
                 if not (parcel := self._site.spool.show(number)):
                     break  # (somebody removed it meanwhile)
                 said, user = requeue(self._site, parcel, self._name), parcel.job.user
-                number = int(said.split()[1])
+                number, self._numbers_left = int(said.split()[1]), self._numbers_left - 1
         except (SpoolError, NotRemoved) as error:
             taken.faults.append(f"{self._name} refuses job {number} ({refused.reason}), and it cannot be queued anew: {error}")
             return
