@@ -359,6 +359,17 @@ class Small(Folder):
         looks._check_settings_below(f"{self.folder}/public")
         self.assertEqual(paths[:2], sorted((line.partition(":")[0] for line in session.printed), key=len))
 
+    def test_what_is_in_the_place_of_a_neighbours_folder(self) -> None:
+        session = Quiet(self.folder)
+        looks = check.Check(session)
+        looks._owner, looks._own, looks._systems = pwd.getpwuid(os.geteuid()).pw_name, "mysite", frozenset(("mysite", "duke", "unc", "phs", "eve"))
+        self.put("public/unc")
+        for name, mode in ("duke", 0o755), ("phs", 0o777):
+            os.mkdir(f"{self.folder}/public/{name}")
+            os.chmod(f"{self.folder}/public/{name}", mode)
+        looks._check_neighbours_folders(f"{self.folder}/public")
+        self.assertEqual(["phs", "unc"], sorted(os.path.basename(line.partition(",")[0]) for line in session.printed))
+
     def test_who_is_called_by_taylor(self) -> None:
         looks = check.Check(Quiet(self.folder))
         for name in "uucico", "folder", "taylor":
