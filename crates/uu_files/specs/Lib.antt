@@ -1,2 +1,3 @@
 pub mod Dirty
+pub mod Room
 pub mod Settled

@@ -16,6 +16,6 @@ pub record AreSettled {D : Type 0} (g : disk.Ghosts D) (image : Image) (files : 
 -- ---- the pool of an opening: this project's choice
 
 -- The most pages that are kept in memory once they were read: those of the log and of the database
--- file, and 32 more for what is written, at most 32,768, which take 128 MiB.
-abbrev pub pool_pages : ℕ → ℕ → ℕ
-pool_pages log db = min (log / 4096 + db / 4096 + 32) 32768
+-- file, or those of the limit if these are fewer, and 32 more for what is written.
+abbrev pub pool_pages : ℕ → ℕ → ℕ → ℕ
+pool_pages limit log db = min (log / 4096 + db / 4096) (limit / 4096) + 32

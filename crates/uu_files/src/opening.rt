@@ -1,5 +1,5 @@
 //! The two files of a spool, and the database in them.
-ghost use Rattle.std.specs.Prelude.{◌≡◌, ◌⊎◌, true, false, codes, None, Err, IsTrue, IfOk, IfErr, IfSome, IsErrAnd};
+ghost use Rattle.std.specs.Prelude.{◌≡◌, ◌≤◌, ◌⊎◌, true, false, codes, None, Err, IsTrue, IfOk, IfErr, IfSome, IsErrAnd};
 ghost use Rattle.sqlite.specs.Files.{file_state, FailsToOpenFiles, IsCleanLeft, IsOpened, LeavesFiles};
 ghost use Rattle.sqlite.specs.Held.{IsNew};
 ghost use Rattle.sqlite.specs.Start.{FindsIn};
@@ -10,23 +10,21 @@ ghost use Rattle.sqlite_wal.specs.Recovery.{Image};
 ghost use Rattle.uu_files.specs.Settled.{AreSettled, pool_pages};
 
 use crate::dirty::SyncWhenDirty;
+use crate::limited::Limited;
+use crate::room::{PAGE, Room, most_pages};
 use sqlite::{Connection, Error, ErrorCode, FileFrom, FileStore, Files, Leftover, Options, Start};
 use sqlite_disk::Disk;
 use sqlite_std_file::OpenError;
+use std::alloc::Global;
 use std::hash::{BuildHasher, RandomState};
 use std::io::ErrorKind;
 
-/// A file of a spool: it had the contents that `T` stands for, and is synced only if it is dirty.
-pub type SpoolFile<T> = SyncWhenDirty<FileFrom<T>>;
-
-/// The bytes of a page in a file.
-const PAGE: usize = 4_096;
+/// A file of a spool: it had the contents that `T` stands for, is synced only if it is dirty, and if
+/// it is the log takes no page beyond the limit.
+pub type SpoolFile<T> = SyncWhenDirty<Limited<FileFrom<T>>>;
 
 /// The pages of a pool beyond those of the files, for what is written.
 const SPARE_PAGES: usize = 32;
-
-/// The most pages of a pool, which take 128 MiB.
-const MOST_PAGES: usize = 32_768;
 
 const NO_MEMORY: Error = Error::SqliteFailure(ErrorCode::OutOfMemory);
 
@@ -34,13 +32,15 @@ const CANNOT_OPEN: Error = Error::SqliteFailure(ErrorCode::CannotOpen);
 
 /// Opens the files at the path, or makes them, and the database in them. A new database has sums on
 /// its pages. It does what `Connection::open_from` of `sqlite` does, but its files are synced only
-/// if they are dirty, and its pool is as large as they need.
+/// if they are dirty, its log takes no page beyond the limit, and its pool is as large as they need
+/// and the limit allows.
 ///
 /// # Errors
 /// With what is left of the files, if they were opened.
 pub fn open_database<T: Start>(
     rt: &HostRuntime,
     path: &str,
+    room: Room,
     start: T,
 ) -> Result<Connection<FileStore<SpoolFile<T>>>, (Error, Option<Leftover<SpoolFile<T>>>)>
     ensures fresh { IfOk result IsNew }
@@ -56,8 +56,8 @@ pub fn open_database<T: Start>(
         Ok(state) => state.hash_one(&0u8),
         Err(_) => return Err((CANNOT_OPEN, None)),
     };
-    match open_pair(rt, path, start) {
-        Ok(files) => match open_in(rt, seed, files) {
+    match open_pair(rt, path, room, start) {
+        Ok(files) => match open_in(rt, seed, room, files) {
             Ok(conn) => Ok(conn),
             Err((error, left)) => Err((error, Some(left))),
         },
@@ -66,7 +66,12 @@ pub fn open_database<T: Start>(
 }
 
 // The files at the path, or new ones.
-fn open_pair<T: Start>(rt: &HostRuntime, path: &str, start: T) -> Result<Files<SpoolFile<T>>, Error>
+fn open_pair<T: Start>(
+    rt: &HostRuntime,
+    path: &str,
+    room: Room,
+    start: T,
+) -> Result<Files<SpoolFile<T>>, Error>
     ensures memory { path.now ≡ codes ":memory:" → result ≡ Err (Error.SqliteFailure ErrorCode.CannotOpen) }
     ensures log { IfOk result (λ files. IsTrue (⟦<SpoolFile<T> as Disk>⟧.is_usable files.log)) }
     ensures db { IfOk result (λ files. IsTrue (⟦<SpoolFile<T> as Disk>⟧.is_usable files.db)) }
@@ -77,7 +82,7 @@ fn open_pair<T: Start>(rt: &HostRuntime, path: &str, start: T) -> Result<Files<S
         return Err(CANNOT_OPEN);
     }
     match sqlite_std_file::open(rt, path, start) {
-        Ok(files) => Ok(behind(files)),
+        Ok(files) => Ok(behind(files, room)),
         Err(OpenError::OutOfMemory) => Err(NO_MEMORY),
         Err(OpenError::Busy) => Err(Error::SqliteFailure(ErrorCode::DatabaseBusy)),
         Err(OpenError::Io(error)) if error.kind() == ErrorKind::OutOfMemory => Err(NO_MEMORY),
@@ -85,8 +90,10 @@ fn open_pair<T: Start>(rt: &HostRuntime, path: &str, start: T) -> Result<Files<S
     }
 }
 
-// Wraps files that were just settled, so that they are synced only if they are dirty.
-fn behind<T: Start>(files: Files<FileFrom<T>>) -> Files<SpoolFile<T>>
+// Wraps files that were just settled, so that they are synced only if they are dirty, and the log
+// takes no page beyond the limit. If the length of the database file can't be read, it counts as
+// short.
+fn behind<T: Start>(files: Files<FileFrom<T>>, room: Room) -> Files<SpoolFile<T>>
     requires log { IsFresh true files.log }
     requires db { IsFresh false files.db }
     requires log_usable { IsTrue (file_is_usable T.Start files.log) }
@@ -95,16 +102,19 @@ fn behind<T: Start>(files: Files<FileFrom<T>>) -> Files<SpoolFile<T>>
     ensures db { IsTrue (⟦<SpoolFile<T> as Disk>⟧.is_usable result.db) }
     ensures settled { AreSettled ⟦<SpoolFile<T> as Disk>⟧ (image_at T.Start) result }
 {
+    let mut files = files;
+    let length = files.db.len().unwrap_or(0);
     Files {
-        log: SyncWhenDirty::synced(files.log),
-        db: SyncWhenDirty::synced(files.db),
+        log: SyncWhenDirty::synced(Limited::new(files.log, most_pages(room, length))),
+        db: SyncWhenDirty::synced(Limited::new(files.db, None)),
     }
 }
 
-// Opens the database in files, with a pool as large as they need.
+// Opens the database in files, with a pool as large as they need and the limit allows.
 fn open_in<D: Disk + Drop>(
     rt: &HostRuntime,
     seed: u64,
+    room: Room,
     files: Files<D>,
 ) -> Result<Connection<FileStore<D>>, (Error, Leftover<D>)>
     requires log { IsTrue (D.Disk.is_usable files.log) }
@@ -116,13 +126,13 @@ fn open_in<D: Disk + Drop>(
 {
     let mut files = files;
     let mut options = Options::new(seed);
-    options.cache_pages = pool_for(&mut files);
+    options.cache_pages = pool_for(rt.alloc(), room, &mut files);
     Connection::open_files_with(rt.alloc(), files, options, true)
 }
 
-// The pages of a pool for these files. If a length can't be read, the pool is smaller than they
-// need, which only costs time.
-fn pool_for<D: Disk>(files: &mut Files<D>) -> usize
+// The pages of a pool for these files, for which there is memory. If a length can't be read, the
+// pool is smaller than they need, which only costs time.
+fn pool_for<D: Disk>(alloc: Global, room: Room, files: &mut Files<D>) -> usize
     requires log { IsTrue (D.Disk.is_usable files.old.log) }
     requires db { IsTrue (D.Disk.is_usable files.old.db) }
     ensures log { IsTrue (D.Disk.is_usable files.new.log) }
@@ -131,12 +141,30 @@ fn pool_for<D: Disk>(files: &mut Files<D>) -> usize
 {
     let log = files.log.len().unwrap_or(0);
     let db = files.db.len().unwrap_or(0);
-    pool_pages(log, db)
+    pages_in_memory(alloc, pool_pages(room.limit, log, db), db)
 }
 
 // The pages of a pool for a log and a database file of these lengths.
-fn pool_pages(log: usize, db: usize) -> usize
-    ensures { result ≡ pool_pages log db }
+fn pool_pages(limit: usize, log: usize, db: usize) -> usize
+    ensures { result ≡ pool_pages limit log db }
 {
-    (log / PAGE + db / PAGE + SPARE_PAGES).min(MOST_PAGES)
+    (log / PAGE + db / PAGE).min(limit / PAGE) + SPARE_PAGES
+}
+
+// So many pages, or as many as there is memory for beside the rows of a database file of this
+// length. An opening reads all of them.
+fn pages_in_memory(alloc: Global, pages: usize, db: usize) -> usize
+    ensures { result ≤ pages }
+{
+    let mut pages = pages;
+    while pages > SPARE_PAGES && !is_there_memory(alloc, pages, db) {
+        pages /= 2;
+    }
+    pages
+}
+
+// Whether memory for so many pages and as many bytes can be had now.
+fn is_there_memory(alloc: Global, pages: usize, bytes: usize) -> bool {
+    let size = pages.saturating_mul(PAGE).saturating_add(bytes);
+    Vec::<u8>::with_capacity(alloc, size).is_ok()
 }

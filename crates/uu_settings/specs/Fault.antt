@@ -22,6 +22,7 @@ key_name key.Zone = codes "zone"
 key_name key.Spool = codes "spool"
 key_name key.Admins = codes "admins"
 key_name key.Seals = codes "seals"
+key_name key.Limit = codes "limit"
 
 -- the fault of a key whose value isn't a name; out of memory stays out of memory
 abbrev pub value_fault : Key → NameFault → SettingsFault

@@ -1,6 +1,6 @@
 -- What a TOML document (TOML 1.1) sets for a site. The keys, their order and their limits are this
 -- project's choice.
-use Rattle.std.specs.Prelude.{◌≡◌, ℕ, suc, pos, not, ◌==◌, length, filter, take, Bool, List, [], ◌∷◌, Option, Some, None, Result, Ok, Err, ⊤, if◌then◌else◌, ok_or, option_map, option_and_then, string_bytes}
+use Rattle.std.specs.Prelude.{◌≡◌, ℕ, suc, pos, nat_abs, int_le, not, ◌==◌, length, filter, take, Bool, List, [], ◌∷◌, Option, Some, None, Result, Ok, Err, ⊤, if◌then◌else◌, ok_or, option_map, option_and_then, string_bytes}
 use Rattle.std.specs.Result.{result_ok}
 use Rattle.toml.specs.Data.{Data, Items, Members, no_items, item, as_str, as_integer, as_array, get_member}
 use Rattle.toml.specs.Errors.{IsWithin, span_start}
@@ -28,6 +28,8 @@ pub record SettingsView : Type 0 where
   pub admins : List (List ℕ)
   -- the path of the folder with the keys of neighbours, if bundles are sealed
   pub seals : Option (List ℕ)
+  -- the bytes of the spool's file beyond which nothing is added
+  pub limit : ℕ
 
 -- ---- values
 
@@ -63,6 +65,17 @@ words_in (item value values) = option_and_then (λ word. option_map (λ words. w
 -- an array of words
 abbrev pub admins_in : Data → Option (List (List ℕ))
 admins_in value = option_and_then words_in (as_array value)
+
+-- the least limit, and that of a site that sets none: 1 MiB and 128 MiB
+abbrev pub least_limit : ℕ
+least_limit = 1_048_576
+
+abbrev pub default_limit : ℕ
+default_limit = 134_217_728
+
+-- a number of bytes that may be a limit
+abbrev pub limit_in : Data → Option ℕ
+limit_in value = option_map nat_abs (option_and_then (where_it (int_le (pos least_limit))) (as_integer value))
 
 -- ---- keys
 
@@ -116,7 +129,8 @@ settings_in document =
     and_then (required key.Spool path_in document) (λ spool.
     and_then (optional key.Admins admins_in [] document) (λ admins.
     and_then (seals document) (λ seals.
-    Ok (record { name = name; zone = zone; spool = spool; admins = admins; seals = seals })))))))
+    and_then (optional key.Limit limit_in default_limit document) (λ limit.
+    Ok (record { name = name; zone = zone; spool = spool; admins = admins; seals = seals; limit = limit }))))))))
 
 -- what the settings say
 abbrev pub settings_view : Settings → SettingsView
@@ -126,6 +140,7 @@ settings_view settings = record {
   spool = string_bytes settings.spool;
   admins = settings.admins.items;
   seals = option_map string_bytes settings.seals;
+  limit = settings.limit;
 }
 
 -- the answer, seen in this way, is the expected one, or it is out of memory

@@ -22,6 +22,9 @@ pub enum Key {
     Admins,
     /// `seals`: the folder with the keys of neighbours, a text of one byte or more.
     Seals,
+    /// `limit`: the bytes of the spool's file beyond which nothing is added, a whole number from
+    /// 1,048,576.
+    Limit,
 }
 
 impl Key {
@@ -36,6 +39,7 @@ impl Key {
             Key::Spool => "spool",
             Key::Admins => "admins",
             Key::Seals => "seals",
+            Key::Limit => "limit",
         }
     }
 }

@@ -7,7 +7,7 @@ ghost use Rattle.uu_settings.specs.Settings as spec;
 
 use crate::fault::{SettingsFault, TomlFault};
 use crate::settings::Settings;
-use crate::values::{admins_of, name_of, offset_of, seals_of, spool_of, zone_of};
+use crate::values::{admins_of, limit_of, name_of, offset_of, seals_of, spool_of, zone_of};
 use std::alloc::Global;
 use toml::Table;
 use toml::de::Error;
@@ -17,11 +17,12 @@ impl Settings {
     /// text of one byte or more, are required. The clock is given by `offset`, a whole number of
     /// minutes from -1439 to 1439, or by `zone`, the text of a POSIX rule. Without both it is UTC.
     /// `admins` is an array of words; without it there are none. `seals` is a text of one byte or
-    /// more. Other keys are ignored.
+    /// more. `limit` is a whole number of bytes, 1,048,576 or more; without it it is 134,217,728.
+    /// Other keys are ignored.
     ///
     /// # Errors
     /// `NotToml`, with the line, if the text isn't a TOML document. Otherwise the first fault of the keys in the
-    /// order `name`, `offset`, `zone`, `spool`, `admins`, `seals`. `Missing` if a required key isn't there.
+    /// order `name`, `offset`, `zone`, `spool`, `admins`, `seals`, `limit`. `Missing` if a required key isn't there.
     /// `BadValue` if a key has a value that isn't allowed, or if `zone` is there beside `offset`.
     /// The only other error is `Memory`.
     pub fn read(alloc: Global, text: &str) -> Result<Settings, SettingsFault>
@@ -74,11 +75,13 @@ fn settings_in(alloc: Global, document: &Table) -> Result<Settings, SettingsFaul
     let spool = spool_of(alloc, document)?;
     let admins = admins_of(alloc, document)?;
     let seals = seals_of(alloc, document)?;
+    let limit = limit_of(document)?;
     Ok(Settings {
         name,
         zone,
         spool,
         admins,
         seals,
+        limit,
     })
 }

@@ -17,4 +17,6 @@ pub struct Settings {
     /// The path of the folder with the keys of neighbours, one byte or more, if bundles are sealed.
     /// A relative one starts at the working directory.
     pub seals: Option<String>,
+    /// The bytes of the spool's file beyond which nothing is added.
+    pub limit: usize,
 }

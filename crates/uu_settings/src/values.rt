@@ -17,6 +17,12 @@ use uu_times::zone::OFFSET_LIMIT;
 
 const MOST_MINUTES: i64 = OFFSET_LIMIT as i64;
 
+/// The least limit, 1 MiB.
+const LEAST_LIMIT: i64 = 1_048_576;
+
+/// The limit of a site that sets none, 128 MiB.
+const DEFAULT_LIMIT: usize = 134_217_728;
+
 /// The name of the site.
 pub(crate) fn name_of(alloc: Global, document: &Table) -> Result<SiteName, SettingsFault>
     ensures { AnswersAs (λ name. name) result (spec.required Key.Name spec.name_in (table_view document.now)) }
@@ -82,6 +88,16 @@ pub(crate) fn seals_of(alloc: Global, document: &Table) -> Result<Option<String>
             Err(fault) => Err(fault),
         },
         None => Ok(None),
+    }
+}
+
+/// The limit of the spool's file.
+pub(crate) fn limit_of(document: &Table) -> Result<usize, SettingsFault>
+    ensures { AnswersAs (λ limit. limit) result (spec.optional Key.Limit spec.limit_in spec.default_limit (table_view document.now)) }
+{
+    match value_of(document, Key::Limit) {
+        Some(value) => limit_in(value),
+        None => Ok(DEFAULT_LIMIT),
     }
 }
 
@@ -180,6 +196,16 @@ fn word_in(alloc: Global, value: &Value) -> Result<Word, SettingsFault>
     match Word::parse(alloc, text) {
         Ok(word) => Ok(word),
         Err(fault) => Err(fault_at(Key::Admins, fault)),
+    }
+}
+
+// The value as a limit.
+fn limit_in(value: &Value) -> Result<usize, SettingsFault>
+    ensures { AnswersAs (λ limit. limit) result (ok_or (spec.limit_in (view value.now)) (SettingsFault.BadValue Key.Limit)) }
+{
+    match value.as_integer() {
+        Some(limit) if limit >= LEAST_LIMIT => Ok(limit as usize),
+        _ => Err(SettingsFault::BadValue(Key::Limit)),
     }
 }
 

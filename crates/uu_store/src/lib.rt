@@ -19,7 +19,7 @@ pub use uu_core::{
     By, CallState, Command, Due, Filter, JobHead, Kind, NewJob, Outcome, Refusal, Reply, SystemRow,
     Taken,
 };
-pub use uu_files::SpoolFile;
+pub use uu_files::{Room, SpoolFile};
 pub use uu_names::{Grade, Listed, SiteName, Word};
 pub use uu_schema::{StoreFault, StoreKind};
 pub use uu_times::{Moment, SystemDef};

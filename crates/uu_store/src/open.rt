@@ -18,7 +18,7 @@ use crate::spool::Spool;
 use sqlite::{Alter, Connection, FileStore, Start};
 use sqlite_disk::Disk;
 use std::alloc::Global;
-use uu_files::SpoolFile;
+use uu_files::{Room, SpoolFile};
 use uu_schema::StoreFault;
 
 /// A spool over a file.
@@ -43,6 +43,7 @@ pub type FileSpool<T> = Spool<FileStore<SpoolFile<T>>>;
 pub fn open_spool<T: Start>(
     rt: &HostRuntime,
     path: &str,
+    room: Room,
     start: T,
 ) -> Result<FileSpool<T>, OpenFault<SpoolFile<T>>>
     ensures usable { IfOk result (λ spool. has_failed spool ≡ false) }
@@ -70,7 +71,7 @@ pub fn open_spool<T: Start>(
     // The name of a database in memory isn't that of a file.
     ensures in_memory { path.now ≡ codes ":memory:" → IsErrAnd result (λ e. e.fault ≡ StoreFault.Store Database) }
 {
-    match open_files(rt, path, start) {
+    match open_files(rt, path, room, start) {
         Ok(conn) => adopted_in_files(rt.alloc(), conn),
         Err(failed) => Err(failed),
     }

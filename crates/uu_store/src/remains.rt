@@ -11,7 +11,7 @@ ghost use Rattle.uu_store.specs.Openings.{IsFoundIfClean, IsRightFault, IsOfNoCo
 
 use sqlite::{Connection, Error, FileStore, Leftover, Start};
 use sqlite_disk::Disk;
-use uu_files::{SpoolFile, open_database};
+use uu_files::{Room, SpoolFile, open_database};
 use uu_schema::{StoreFault, is_memory, kind_of};
 
 /// What is left of the two files of a spool that wasn't opened.
@@ -80,6 +80,7 @@ fn opening_fault(error: &Error) -> StoreFault
 pub(crate) fn open_files<T: Start>(
     rt: &HostRuntime,
     path: &str,
+    room: Room,
     start: T,
 ) -> Result<Connection<FileStore<SpoolFile<T>>>, OpenFault<SpoolFile<T>>>
     ensures idle { IfOk result IsIdle }
@@ -92,7 +93,7 @@ pub(crate) fn open_files<T: Start>(
     // The name of a database in memory isn't that of a file.
     ensures in_memory { path.now ≡ codes ":memory:" → IsErrAnd result (λ e. e.fault ≡ StoreFault.Store Database) }
 {
-    match open_database(rt, path, start) {
+    match open_database(rt, path, room, start) {
         Ok(conn) => Ok(conn),
         Err((error, left)) => Err(OpenFault {
             fault: opening_fault(&error),

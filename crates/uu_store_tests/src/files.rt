@@ -11,9 +11,15 @@ use std::io::ErrorKind;
 use std::process::Abort;
 use std::rt::Files;
 use uu_store::Reply::{Done, Number};
-use uu_store::{Command, Reply, RunEnd, Spool, StoreFault, open_spool};
+use uu_store::{Command, Reply, Room, RunEnd, Spool, StoreFault, open_spool};
 
 const FILE: &str = "stretches.db";
+
+/// No limit counts.
+const ROOM: Room = Room {
+    limit: 1_048_576,
+    counts: false,
+};
 
 const LOG: &str = "stretches.db-wal";
 
@@ -79,7 +85,7 @@ fn ended_and_closed<E: Drop, G: Drop>(worked: (RunEnd, Result<G, E>)) -> Option<
 }
 
 fn worked<T: Start>(host: &HostRuntime, start: T, commands: Vec<Command>) -> Option<RunEnd> {
-    ended_and_let_go(host.alloc(), open_spool(host, FILE, start), commands)
+    ended_and_let_go(host.alloc(), open_spool(host, FILE, ROOM, start), commands)
 }
 
 /// A stretch whose files are closed.
@@ -88,7 +94,7 @@ fn worked_and_closed<T: Start>(
     start: T,
     commands: Vec<Command>,
 ) -> Option<RunEnd> {
-    match open_spool(host, FILE, start) {
+    match open_spool(host, FILE, ROOM, start) {
         Ok(spool) => ended_and_closed(run_and_close(host.alloc(), spool, commands)),
         Err(_) => None,
     }
@@ -120,7 +126,7 @@ fn expect_closed_stretch<T: Start>(
 
 /// The next job gets number 4.
 fn expect_next<T: Start>(rt: &impl Abort, host: &HostRuntime, start: T) {
-    expect_next_in_files(rt, host.alloc(), open_spool(host, FILE, start));
+    expect_next_in_files(rt, host.alloc(), open_spool(host, FILE, ROOM, start));
 }
 
 /// The same for the result of an opening.

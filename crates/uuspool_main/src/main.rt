@@ -7,6 +7,7 @@ mod given;
 mod logged;
 mod making;
 mod misread;
+mod room;
 mod sealing;
 mod serving;
 mod stretch;

@@ -41,6 +41,7 @@ pub(crate) fn take_seals(settings: Settings) -> (Settings, Option<String>)
         spool,
         admins,
         seals,
+        limit,
     } = settings;
     let opened = Settings {
         name,
@@ -48,6 +49,7 @@ pub(crate) fn take_seals(settings: Settings) -> (Settings, Option<String>)
         spool,
         admins,
         seals: None,
+        limit,
     };
     (opened, seals)
 }

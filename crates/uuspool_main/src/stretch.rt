@@ -12,6 +12,7 @@ ghost use Rattle.uuspool_main.specs.Stretch.{HasMoment, IsOfInvocation, IsOfLine
 
 use crate::batching::batch_on;
 use crate::is_log_long;
+use crate::room::room_for;
 use sqlite::{Alter, FileStore, Files, Start};
 use sqlite_disk::Disk;
 use std::alloc::Global;
@@ -91,7 +92,8 @@ pub(crate) fn work_on_file<H: FileHistory, T: Start>(
     ensures given_back { IfErr result (λ e. e.1 ≡ invocation) }
 {
     no_answered_command_is_lost_in_files::<H>();
-    match open_spool(rt, settings.spool.as_str(), start) {
+    let room = room_for(settings, &invocation);
+    match open_spool(rt, settings.spool.as_str(), room, start) {
         Ok(spool) => Ok(work_on(rt, settings, invocation, spool)),
         Err(failed) => Err((failed, invocation)),
     }

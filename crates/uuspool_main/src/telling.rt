@@ -13,8 +13,8 @@ pub(crate) fn tell_name(rt: &HostRuntime, settings: &Settings) -> Result<u8, Tro
 }
 
 /// Prints where the site is, one line each, with paths from the root: its name, its settings file,
-/// the folder of its spool, the spool, its log, its clock as the text of the settings has it, and the
-/// folder of keys, if there is one.
+/// the folder of its spool, the spool, its log, the spool's limit, its clock as the text of the
+/// settings has it, and the folder of keys, if there is one.
 pub(crate) fn tell_site(
     rt: &HostRuntime,
     site: &Site,
@@ -40,7 +40,7 @@ fn expect_one_line(what: &'static str, path: &str) -> Result<(), SiteFault> {
     Ok(())
 }
 
-// The lines of the name and the paths.
+// The lines of the name, the paths and the limit.
 fn lines_of(
     alloc: Global,
     settings: &Settings,
@@ -51,7 +51,8 @@ fn lines_of(
     let folder = places.folder.as_str();
     let spool = places.spool.as_str();
     let log = places.log.as_str();
-    format!(in alloc; "name {name}\nsettings {path}\nfolder {folder}\nspool {spool}\nlog {log}\n")
+    let limit = settings.limit;
+    format!(in alloc; "name {name}\nsettings {path}\nfolder {folder}\nspool {spool}\nlog {log}\nlimit {limit}\n")
 }
 
 // Adds the line of the clock, `zone` or `offset`, if the text of the settings has one of them.

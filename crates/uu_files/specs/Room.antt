@@ -1,0 +1,35 @@
+-- How long the database file of a spool may become, and which frames a log takes. A log is laid out
+-- as SQLite's: 32 bytes, and then frames of 24 bytes and a page, each of which begins with the page's
+-- number. (The limit and how it counts are this project's choice.)
+use Rattle.std.specs.Prelude.{◌≡◌, ℕ, ◌+◌, ◌-◌, ◌*◌, ◌/◌, ◌%◌, ◌<◌, ◌≤◌, max, Bool, List, length, drop, take, Option, Some, None, if◌then◌else◌}
+use Rattle.std.specs.Int.{from_be_bytes, w32}
+use Rattle.sqlite_disk.specs.declared.Disk as disk
+use Rattle.uu_files.specs.declared.limited.Limited.{Limited}
+use Rattle.uu_files.specs.declared.room.Room.{Room}
+
+-- The most pages of a database file of this length, if the limit counts: those of the limit. A file
+-- that is longer keeps its pages.
+abbrev pub most_pages : Room → ℕ → Option ℕ
+most_pages room length = if room.counts then Some (max room.limit length / 4096) else None
+
+-- a frame in a log, which begins with these bytes, is of a page beyond the last one
+abbrev pub IsPageBeyond : ℕ → List ℕ → Type 0
+IsPageBeyond last frame = (4 ≤ length frame) × (last < from_be_bytes w32 (take 4 frame))
+
+-- from this place of a log it is so many bytes to the next frame
+abbrev pub IsWayToFrame : ℕ → ℕ → Type 0
+IsWayToFrame at way = ∥ (frame : ℕ) × (at + way ≡ 32 + frame * 4120) × ((before : ℕ) → 32 + before * 4120 < 32 + frame * 4120 → 32 + before * 4120 < at) ∥₁
+
+-- one of the frames whose number is in these bytes, which are for this place of a log, is of a page
+-- beyond the last one
+abbrev pub HasPageBeyond : ℕ → ℕ → List ℕ → Type 0
+HasPageBeyond last at bytes = ∥ (i : ℕ) × (frame : ℕ) × (at + i ≡ 32 + frame * 4120) × IsPageBeyond last (drop i bytes) ∥₁
+
+module _ {D : Type 0} {g : disk.Ghosts D} where
+  -- the file behind, which gets the calls that aren't refused
+  abbrev pub unlimited : Limited D g → D
+  unlimited file = file.inner
+
+  -- the last page whose frames are taken, if there is a limit
+  abbrev pub most_of : Limited D g → Option ℕ
+  most_of file = file.most
