@@ -3,7 +3,6 @@
 -- number. (The limit and how it counts are this project's choice.)
 use Rattle.std.specs.Prelude.{◌≡◌, ℕ, ◌+◌, ◌-◌, ◌*◌, ◌/◌, ◌%◌, ◌<◌, ◌≤◌, max, Bool, List, length, drop, take, Option, Some, None, if◌then◌else◌}
 use Rattle.std.specs.Int.{from_be_bytes, w32}
-use Rattle.sqlite_disk.specs.declared.Disk as disk
 use Rattle.uu_files.specs.declared.limited.Limited.{Limited}
 use Rattle.uu_files.specs.declared.room.Room.{Room}
 
@@ -16,20 +15,23 @@ most_pages room length = if room.counts then Some (max room.limit length / 4096)
 abbrev pub IsPageBeyond : ℕ → List ℕ → Type 0
 IsPageBeyond last frame = (4 ≤ length frame) × (last < from_be_bytes w32 (take 4 frame))
 
--- from this place of a log it is so many bytes to the next frame
+-- the place of a frame in a log
+abbrev pub frame_at : ℕ → ℕ
+frame_at frame = 32 + frame * 4120
+
+-- from this place of a log it is so many bytes to the next frame, or to the one that begins there
 abbrev pub IsWayToFrame : ℕ → ℕ → Type 0
-IsWayToFrame at way = ∥ (frame : ℕ) × (at + way ≡ 32 + frame * 4120) × ((before : ℕ) → 32 + before * 4120 < 32 + frame * 4120 → 32 + before * 4120 < at) ∥₁
+IsWayToFrame at way = ∥ ((frame : ℕ) × (at + way ≡ frame_at frame)) ∥₁ × ((frame : ℕ) → at ≤ frame_at frame → at + way ≤ frame_at frame)
 
 -- one of the frames whose number is in these bytes, which are for this place of a log, is of a page
 -- beyond the last one
 abbrev pub HasPageBeyond : ℕ → ℕ → List ℕ → Type 0
-HasPageBeyond last at bytes = ∥ (i : ℕ) × (frame : ℕ) × (at + i ≡ 32 + frame * 4120) × IsPageBeyond last (drop i bytes) ∥₁
+HasPageBeyond last at bytes = ∥ ((way : ℕ) × (frame : ℕ) × (at + way ≡ frame_at frame) × IsPageBeyond last (drop way bytes)) ∥₁
 
-module _ {D : Type 0} {g : disk.Ghosts D} where
-  -- the file behind, which gets the calls that aren't refused
-  abbrev pub unlimited : Limited D g → D
-  unlimited file = file.inner
+-- the file behind, which gets the calls that aren't refused
+abbrev pub unlimited : {D : Type 0} → Limited D → D
+unlimited file = file.inner
 
-  -- the last page whose frames are taken, if there is a limit
-  abbrev pub most_of : Limited D g → Option ℕ
-  most_of file = file.most
+-- the last page whose frames are taken, if there is a limit
+abbrev pub most_of : {D : Type 0} → Limited D → Option ℕ
+most_of file = file.most

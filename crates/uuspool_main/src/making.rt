@@ -89,7 +89,7 @@ fn ask_status(
         Invocation::Line { line, at, input },
     )?;
     let Answer { end, .. } = answer;
-    ended(rt, places, end)?;
+    ended(rt, places, None, end)?;
     Ok(())
 }
 

@@ -1,18 +1,16 @@
 //! The limit of the spool's file: whom it concerns, and whether it was reached.
 
+use crate::log_length;
 use crate::stretch::{Answer, Invocation};
 use crate::trouble::Trouble;
 use std::fs;
-use std::mem::drop;
+use uu_names::text::MAX_TEXT;
 use uu_site::Places;
 use uu_store::{Room, StoreFault, StoreKind};
-use uuspool::{Fault, Settings, Task};
+use uuspool::{CommandLine, Fault, Settings, Task};
 
-/// The bytes that a change writes beside twice those of its input, at most.
+/// The bytes of pages that a change writes beside twice those of its input, at most.
 const BESIDE: u64 = 65_536;
-
-/// The most bytes of an input.
-const MOST_INPUT: u64 = 4_194_304;
 
 /// The room of an invocation. What only reads or takes away isn't limited, so that nobody is locked
 /// out of a full spool.
@@ -26,8 +24,8 @@ pub(crate) fn room_for(settings: &Settings, invocation: &Invocation) -> Room {
     }
 }
 
-/// Whether a task brings bytes into the spool.
-pub(crate) fn brings_in(task: &Task) -> bool {
+// Whether a task brings bytes into the spool.
+fn brings_in(task: &Task) -> bool {
     matches!(
         task,
         Task::Load
@@ -40,3 +38,52 @@ pub(crate) fn brings_in(task: &Task) -> bool {
     )
 }
 
+/// What comes into the spool: at most so many bytes, up to a limit.
+#[derive(Clone, Copy)]
+pub(crate) struct Bringing {
+    limit: u64,
+    most: u64,
+}
+
+impl Bringing {
+    /// What a line brings in with this input, if it brings anything.
+    pub(crate) fn of_line(settings: &Settings, line: &CommandLine, input: &[u8]) -> Option<Bringing> {
+        if !brings_in(&line.task) {
+            return None;
+        }
+        Some(Bringing {
+            limit: settings.limit as u64,
+            most: input.len() as u64,
+        })
+    }
+
+    /// What the next request of a batch may bring in.
+    pub(crate) fn of_batch(settings: &Settings) -> Option<Bringing> {
+        Some(Bringing {
+            limit: settings.limit as u64,
+            most: MAX_TEXT as u64,
+        })
+    }
+}
+
+/// The limit, if the disk failed what was brought in and the spool's files are so long that the limit
+/// may be why. On a disk without room the limit may be named though it wasn't reached, if the files are
+/// nearly as long as that.
+pub(crate) fn limit_reached(
+    rt: &HostRuntime,
+    places: &Places,
+    bringing: Option<Bringing>,
+    fault: StoreFault,
+) -> Option<u64> {
+    let Bringing { limit, most } = bringing?;
+    if !matches!(fault, StoreFault::Store(StoreKind::Disk)) {
+        return None;
+    }
+    let Ok(file) = fs::metadata(rt, places.spool.as_str()) else {
+        return None;
+    };
+    let log = log_length(rt, places.spool.as_str()).unwrap_or(0);
+    let written = most.saturating_mul(2).saturating_add(BESIDE);
+    let length = file.len().saturating_add(log).saturating_add(written);
+    if length > limit { Some(limit) } else { None }
+}

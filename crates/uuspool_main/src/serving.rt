@@ -6,6 +6,7 @@ ghost use Rattle.uuspool_main.specs.Stretch.{HasMoment};
 
 use crate::given::{Given, given_for, moment_for};
 use crate::logged::{change_of, first_line, log_answer};
+use crate::room::{Bringing, limit_reached};
 use crate::sealing::Sealing;
 use crate::stretch::{Answer, Invocation, Rest, work_on_file};
 use crate::trouble::{Trouble, print_warning};
@@ -92,10 +93,11 @@ fn serve_ready(
     }
 }
 
-// An answer, and whether the log has its line.
+// An answer, what the line brings in, and whether the log has its line.
 #[derive(Drop)]
 struct Answered {
     answer: Answer,
+    bringing: Option<Bringing>,
     noted: Result<(), SiteFault>,
 }
 
@@ -113,8 +115,9 @@ fn answer_in_turn(
 {
     match turn_at(rt, places) {
         Ok(turn) => {
+            let bringing = Bringing::of_line(settings, &line, &given.input);
             let answered = match serve_with_room(rt, settings, places, &turn, words, line, given) {
-                Ok(served) => Ok(noted_in_log(rt, settings, places, change, served)),
+                Ok(served) => Ok(noted_in_log(rt, settings, places, change, bringing, served)),
                 Err(trouble) => Err(trouble),
             };
             drop(turn);
@@ -135,6 +138,7 @@ fn noted_in_log(
     settings: &Settings,
     places: &Places,
     change: &Option<Change>,
+    bringing: Option<Bringing>,
     served: Served,
 ) -> Answered {
     let Served { answer, share } = served;
@@ -145,7 +149,11 @@ fn noted_in_log(
     if change.is_some() && answer.end.is_ok() {
         make_reserve(rt, places, share);
     }
-    Answered { answer, noted }
+    Answered {
+        answer,
+        bringing,
+        noted,
+    }
 }
 
 // An answer, and how much of the room that is left the next reserve may take.
@@ -296,8 +304,12 @@ fn tell(
     change: &Option<Change>,
     answered: Answered,
 ) -> Result<u8, Trouble> {
-    let Answered { answer, noted } = answered;
-    let end = print_answer(rt, places, sealing, change, answer);
+    let Answered {
+        answer,
+        bringing,
+        noted,
+    } = answered;
+    let end = print_answer(rt, places, sealing, change, bringing, answer);
     if let Err(fault) = &noted {
         print_warning(rt, fault);
     }
@@ -314,7 +326,7 @@ pub(crate) fn serve_batch(rt: &HostRuntime, settings: &Settings) -> Result<u8, T
         make_reserve(rt, &places, Share::Quarter);
     }
     drop(turn);
-    ended(rt, &places, answer.end)
+    ended(rt, &places, Bringing::of_batch(settings), answer.end)
 }
 
 /// Takes the turn at a spool, if its folder is this user's.
@@ -398,6 +410,7 @@ fn print_answer(
     places: &Places,
     sealing: &Sealing,
     change: &Option<Change>,
+    bringing: Option<Bringing>,
     answer: Answer,
 ) -> Result<u8, Trouble> {
     let Answer { end, output } = answer;
@@ -405,7 +418,7 @@ fn print_answer(
         Ok(0) => sealing.sealed(rt.alloc(), output)?,
         _ => output,
     };
-    match (print(rt, &output), ended(rt, places, end)) {
+    match (print(rt, &output), ended(rt, places, bringing, end)) {
         (Err(error), Ok(_)) => Err(Trouble::Unprinted {
             error,
             told: told_instead(rt, change, &output)?,
@@ -428,17 +441,30 @@ pub(crate) fn print(rt: &HostRuntime, bytes: &[u8]) -> io::Result<()> {
     io::writer(rt).write_all(bytes)
 }
 
-/// How the work ended. A fault of the store gets the path of the spool.
+/// How the work ended. A fault of the store gets the path of the spool, and the limit if that may be
+/// the cause.
 pub(crate) fn ended(
     rt: &HostRuntime,
     places: &Places,
+    bringing: Option<Bringing>,
     end: Result<u8, Fault>,
 ) -> Result<u8, Trouble> {
     match end {
         Ok(status) => Ok(status),
-        Err(Fault::Store(fault)) => store_trouble(rt, places, fault),
+        Err(Fault::Store(fault)) => match limit_reached(rt, places, bringing, fault) {
+            Some(limit) => full_trouble(rt, places, limit),
+            None => store_trouble(rt, places, fault),
+        },
         Err(fault) => Err(Trouble::Line(fault)),
     }
+}
+
+// The spool has reached its limit.
+fn full_trouble<T: Drop>(rt: &HostRuntime, places: &Places, limit: u64) -> Result<T, Trouble> {
+    Err(Trouble::Full {
+        path: String::from_str(rt.alloc(), places.spool.as_str())?,
+        limit,
+    })
 }
 
 /// A history without stretches. Only clauses name it, and `work_on_file` is proved for any other

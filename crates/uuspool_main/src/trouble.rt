@@ -13,6 +13,8 @@ use uu_store::{StoreFault, StoreKind};
 use uu_times::TimeFault;
 use uuspool::{Fault, FaultLine, SettingsFault, fault_status};
 
+const MEBIBYTE: u64 = 1_048_576;
+
 /// Why the program has no answer.
 #[derive(Drop)]
 pub(crate) enum Trouble {
@@ -26,6 +28,8 @@ pub(crate) enum Trouble {
     Site(SiteFault),
     /// The spool in the file of this path gave no answer.
     Store { fault: StoreFault, path: String },
+    /// The spool in the file of this path has reached its limit of so many bytes.
+    Full { path: String, limit: u64 },
     /// The keys of the line's neighbour can't be used.
     Keys(KeyFileFault),
     /// The bundle of this neighbour isn't sealed with one of its keys.
@@ -43,6 +47,7 @@ impl Trouble {
             Trouble::Settings { .. } => 2,
             Trouble::Site(fault) => fault.status(),
             Trouble::Store { fault, .. } => fault_status(&Fault::Store(*fault)),
+            Trouble::Full { .. } => fault_status(&Fault::Store(StoreFault::Store(StoreKind::Disk))),
             Trouble::Unopened { .. } => 2,
             Trouble::Keys(_) | Trouble::Unprinted { .. } => 5,
         }
@@ -97,6 +102,7 @@ impl fmt::Display for Trouble {
             Trouble::Settings { fault, path } => write_settings(*fault, path, f),
             Trouble::Site(fault) => write!(f, "uuspool: {fault}\n"),
             Trouble::Store { fault, path } => write_store(*fault, path, f),
+            Trouble::Full { path, limit } => write_full(path, *limit, f),
             Trouble::Keys(fault) => write!(f, "uuspool: {fault}\n"),
             Trouble::Unopened { neighbour, fault } => write_unopened(neighbour, *fault, f),
             Trouble::Unprinted { error, told } => {
@@ -167,6 +173,15 @@ fn write_store<W: fmt::Write>(
     let whole = Fault::Store(fault);
     let text = store_text(fault);
     write!(f, "uuspool: {whole}: {path} {text}\n")
+}
+
+// Writes that the spool has reached its limit, and what to do.
+fn write_full<W: fmt::Write>(path: &String, limit: u64, f: &mut fmt::Formatter<W>) -> fmt::Result {
+    let whole = limit / MEBIBYTE;
+    write!(
+        f,
+        "uuspool: spool: full: {path} has reached the limit of {whole} MiB: deliver or remove jobs, or raise limit in the settings\n"
+    )
 }
 
 fn store_text(fault: StoreFault) -> &'static str {
