@@ -16,6 +16,10 @@ class Settings(Folder):
         ):  # fmt: skip
             self.assertEqual(zone, settings.read(f"{SITE.format(self.folder)}{line}\n").zone, line)
 
+    def test_the_limit(self) -> None:
+        for line, limit in ("", 0), ("limit 1048576", 1048576):
+            self.assertEqual(limit, settings.read(f"{SITE.format(self.folder)}{line}\n").limit)
+
     def test_a_program_of_another_version(self) -> None:
         with self.assertRaisesRegex(settings.NoSite, "says no log"):
             settings.read(SITE.format(self.folder).partition("log")[0])

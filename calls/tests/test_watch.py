@@ -51,6 +51,17 @@ class Gathered(Folder):
         self.assertEqual(("mysite", NOON, 1, 3, 2, 10, NOON - 60), (it.own, it.now, it.delayed, it.refused, it.untold, it.spool, it.round))
         self.assertGreater(it.room, 0)
 
+    def test_what_is_used_of_the_limit(self) -> None:
+        path = self.put("spool.db")
+        for pages, free, used, is_high in (0, 0, 0, False), (204, 0, 204, False), (205, 0, 205, True), (256, 52, 204, False), (300, 0, 300, True):
+            with open(path, "wb") as file:
+                file.write(bytes(36) + free.to_bytes(4, "big"))
+                file.truncate(pages * 4096)
+            use = figures.use_of(Settings("mysite", "", "", path, "", "UTC0", limit=1 << 20))
+            self.assertEqual((used * 4096, is_high), (use.used, use.is_high))
+        self.assertEqual("117 % of the limit of 1 MiB", str(use))
+        self.assertFalse(figures.use_of(Settings("mysite", "", "", path, "", "UTC0")).is_high)
+
     def test_a_spool_that_cannot_be_asked(self) -> None:
         found = Settings("mysite", "", "", f"{self.folder}/spool.db", "", "UTC0")
         with self.assertRaisesRegex(Failure, "the spool cannot be asked: uuspool: x is missing"):
@@ -101,6 +112,8 @@ class Monitor(Folder):
         self.expect(1, "nobody could be told of 2 refused jobs", figures_of(untold=2))
         for megabytes, grade in (100, 0), (99, 1), (10, 1), (9, 2):
             self.expect(grade, "0 jobs wait" if not grade else f"{megabytes} MB are free for the spool", figures_of(room=megabytes << 20))
+        self.expect(1, "the spool uses 81 % of the limit of 1 MiB", figures_of(used=850_000, limit=1 << 20))
+        self.expect(0, "0 jobs wait", figures_of(used=830_000, limit=1 << 20))
 
     def test_wrong_words(self) -> None:
         for words in ["-w", "x"], ["-x"], ["duke"], ["-c"], ["-m", "-1"]:

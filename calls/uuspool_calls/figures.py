@@ -13,6 +13,9 @@ from .texts import one_line
 from .values import NamedTuple
 
 _UNTOLD = ".untold"
+_PAGE = 4096  # bytes
+_FREE = slice(36, 40)  # where the head of an SQLite database has the number of its free pages
+_NEARLY = 4, 5  # of the limit: soon nothing may be added
 _Ask = Callable[..., Ended]  # a line of the program, as the spool's user
 
 
@@ -30,6 +33,28 @@ class Neighbour(NamedTuple):
     held: bool = False
 
 
+class Use(NamedTuple):
+    """How much of a spool's limit is used."""
+
+    used: int
+    limit: int
+
+    @property
+    def is_high(self) -> bool:
+        part, whole = _NEARLY
+        return self.limit > 0 and self.used * whole > self.limit * part
+
+    def __str__(self) -> str:
+        return f"{self.used * 100 // self.limit} % of the limit of {self.limit >> 20} MiB"
+
+
+def use_of(found: Settings) -> Use:
+    """How much of the limit the spool's file uses. (What is only in the log is left out.)"""
+    seen, head = files.look(found.spool), files.read_bytes(found.spool, _FREE.stop) or b""
+    free = int.from_bytes(head[_FREE], "big") * _PAGE
+    return Use(max(0, (seen.st_size if seen else 0) - free), found.limit)
+
+
 class Figures(NamedTuple):
     """A site."""
 
@@ -40,6 +65,8 @@ class Figures(NamedTuple):
     refused: int = 0  # jobs, and files that came in pieces, that are kept below refused/
     untold: int = 0  # of these, those whose users were not told yet
     spool: int = 0  # bytes of the spool's files
+    used: int = 0  # bytes of the spool's file that aren't free for new jobs
+    limit: int = 0  # of these
     room: int = 0  # bytes that are free on its disk
     round: int = 0  # when uuspool-night made its last round
 
@@ -58,6 +85,7 @@ def _figures(found: Settings, status: list[list[str]], queues: list[list[str]]) 
         oldest = clock.seconds(found.zone, " ".join(moment))
         neighbours[name] = neighbours.get(name, Neighbour(name))._replace(jobs=int(jobs), size=int(size), oldest=oldest)
     kept = [name for name in files.names_in(f"{found.folder}/refused") if name[0] != "." and not name.endswith(".warned")]
+    use = use_of(found)
     return Figures(
         found.name,
         clock.now(),
@@ -66,6 +94,8 @@ def _figures(found: Settings, status: list[list[str]], queues: list[list[str]]) 
         refused=len(kept),
         untold=sum(name.endswith(_UNTOLD) for name in kept),
         spool=sum(its.st_size for end in ("", "-wal") if (its := files.look(f"{found.spool}{end}"))),
+        used=use.used,
+        limit=use.limit,
         room=_room(found.folder),
         round=int(its.st_mtime) if (its := files.look(f"{found.folder}/{ROUND}")) else 0,
     )

@@ -30,6 +30,8 @@ _OF_SITE: tuple[tuple[str, str, Callable[[Figures], int | None]], ...] = (
     ("refused_jobs", "Jobs that were refused for good and are kept.", lambda it: it.refused),
     ("untold_jobs", "Refused jobs whose users were not told yet.", lambda it: it.untold),
     ("spool_bytes", "Bytes of the spool's files.", lambda it: it.spool),
+    ("used_bytes", "Bytes of the spool's file that aren't free for new jobs.", lambda it: it.used),
+    ("limit_bytes", "Bytes of the spool's file beyond which nothing is added.", lambda it: it.limit or None),
     ("free_bytes", "Bytes that are free on the spool's disk.", lambda it: it.room),
     ("last_round_timestamp_seconds", "When uuspool-night made its last round.", lambda it: it.round or None),
 )

@@ -5,7 +5,7 @@ from enum import IntEnum
 
 from . import options
 from .errors import Failure
-from .figures import Figures, Neighbour
+from .figures import Figures, Neighbour, Use
 from .texts import is_number
 from .values import NamedTuple
 
@@ -99,6 +99,8 @@ def _of_site(figures: Figures, limits: Limits) -> Iterator[Fault]:
     room, wanted = figures.room // _MEGABYTE, limits.room
     grade = Grade.OK if room >= wanted else Grade.WARNING if room >= wanted // _LESS else Grade.CRITICAL
     yield Fault(grade, f"{room} MB are free for the spool")
+    if (use := Use(figures.used, figures.limit)).is_high:
+        yield Fault(Grade.WARNING, f"the spool uses {use}")
 
 
 def _values(figures: Figures, chosen: Sequence[Neighbour], limits: Limits) -> Iterator[str]:

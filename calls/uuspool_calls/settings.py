@@ -10,7 +10,7 @@ from .session import Session
 from .texts import one_line
 from .values import NamedTuple
 
-_KNOWN = {"spool", "zone", "offset", "name", "admins", "seals"}
+_KNOWN = {"spool", "zone", "offset", "name", "admins", "seals", "limit"}
 _MOST = 1 << 20  # bytes that are looked at
 
 
@@ -32,6 +32,7 @@ class Settings(NamedTuple):
     log: str
     zone: str  # the clock of the site, as the variable TZ has it
     seals: str = ""  # the folder with the keys of neighbours, or nothing if bundles aren't sealed
+    limit: int = 0  # bytes of the spool's file beyond which nothing is added
 
     @property
     def folder(self) -> str:
@@ -54,8 +55,9 @@ def read(text: str) -> Settings:
     """The settings in an output of `uuspool site`: a line each, a word and its value."""
     found = dict(line.partition(" ")[::2] for line in text.splitlines())
     zone = found.get("zone") or _zone_of(int(found.get("offset", 0)))
+    limit = int(found.get("limit", 0))
     try:
-        return Settings(found["name"], found["settings"], found["folder"], found["spool"], found["log"], zone, found.get("seals", ""))
+        return Settings(found["name"], found["settings"], found["folder"], found["spool"], found["log"], zone, found.get("seals", ""), limit)
     except KeyError as word:
         raise NoSite(f"uuspool site says no {word.args[0]}: the program and these commands are of different versions") from None
 
