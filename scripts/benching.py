@@ -38,7 +38,7 @@ def make(program, jobs, bytes_of_each):
         if os.path.exists(name):
             os.remove(name)
     with open("uuspool.toml", "w", encoding="utf-8") as file:
-        file.write('name = "here"\nspool = "bench.db"\n')
+        file.write('name = "here"\nspool = "bench.db"\nlimit = 1073741824\n')
     subprocess.run([program, "init"], stdout=subprocess.DEVNULL, check=True)
     systems = b"".join(b"system site%d\ntime Any\n" % at for at in range(SYSTEMS))
     give(program, itertools.chain([b"%d load\n%s" % (len(systems), systems)], sends(jobs, bytes_of_each)))

@@ -1,5 +1,5 @@
 -- The places of frames in a log, and which of them were looked at.
-use Rattle.std.proofs.Common.{◌≡◌, ◌≢◌, ◌⊎◌, inl, inr, ◌≤◌, ◌<◌, ◌+◌, ◌-◌, ◌*◌, ◌/◌, ◌%◌, ◌∙◌, ap, sym, refl, subst, ℕ, zero, suc, List, length, drop, length-drop, arith, min, ◌^◌, ∥∥₁_map}
+use Rattle.std.proofs.Common.{◌≡◌, ◌≢◌, ◌⊎◌, inl, inr, ◌≤◌, ◌<◌, ◌+◌, ◌-◌, ◌*◌, ◌/◌, ◌%◌, ◌∙◌, ap, sym, refl, subst, ℕ, zero, suc, List, length, drop, take, length-drop, take_all, arith, min, ◌^◌}
 use Rattle.std.proofs.Math.Nat.{div-add-mod, mod-lt}
 use Rattle.uu_files.specs.Room.{HasPageBeyond, IsPageBeyond, IsWayToFrame, frame_at}
 
@@ -9,15 +9,15 @@ place_is at behind = omega (arith, div-add-mod (at - 32) 4120)
 
 pub frame_is_here : (at : ℕ) → 32 < at → (at - 32) % 4120 ≡ 0 → IsWayToFrame at 0
 frame_is_here at behind none = (
-  ∣ ((at - 32) / 4120, omega (arith, place_is at behind, none)) ∣₁,
+  ((at - 32) / 4120, omega (arith, place_is at behind, none)),
   λ frame before. omega (arith, before),
 )
 
 pub frame_comes : (at : ℕ) → 32 < at → (at - 32) % 4120 ≢ 0 → IsWayToFrame at (4120 - (at - 32) % 4120)
 frame_comes at behind some =
     let here = place_is at behind in
-    let within = mod-lt (at - 32) {4120} (omega arith) in (
-      ∣ (suc ((at - 32) / 4120), omega (arith, here, within)) ∣₁,
+    let within = mod-lt (at - 32) {m = 4120} (omega arith) in (
+      (suc ((at - 32) / 4120), omega (arith, here, within)),
       λ frame before. omega (arith, here, within, some, before),
     )
 
@@ -27,7 +27,32 @@ IsClear last at bytes place = (way frame : ℕ) → at + way ≡ frame_at frame 
 
 -- the place of a frame, or behind all bytes
 abbrev pub IsFrameOrEnd : ℕ → List ℕ → ℕ → Type 0
-IsFrameOrEnd at bytes place = ∥ ((frame : ℕ) × (at + place ≡ frame_at frame)) ∥₁ ⊎ (length bytes ≤ place)
+IsFrameOrEnd at bytes place = ((frame : ℕ) × (at + place ≡ frame_at frame)) ⊎ (length bytes ≤ place)
 
-pub clear_at_first : (last at : ℕ) (bytes : List ℕ) (way : ℕ) → IsWayToFrame at way → IsClear last at bytes way
-clear_at_first last at bytes way is = λ it frame here before beyond. absurd (omega (arith, is.1 frame (omega (arith, here)), here, before))
+pub clear_at_first : (last at : ℕ) (bytes : List ℕ) (way : ℕ) → IsWayToFrame at way → IsFrameOrEnd at bytes way × IsClear last at bytes way
+clear_at_first last at bytes way is = (inl is.0, λ it frame here before beyond. absurd (omega (arith, is.1 frame (omega (arith, here)), here, before)))
+
+-- the bytes from a place on, as a slice has them
+whole : (bytes : List ℕ) (place : ℕ) → take (length bytes - place) (drop place bytes) ≡ drop place bytes
+whole bytes place = take_all (length bytes - place) (drop place bytes) (omega (arith, length-drop place bytes))
+
+-- a frame that was found
+pub beyond_is_found : (last at : ℕ) (bytes : List ℕ) (place : ℕ) → IsFrameOrEnd at bytes place → place < length bytes
+    → IsPageBeyond last (take (length bytes - place) (drop place bytes)) → HasPageBeyond last at bytes
+beyond_is_found last at bytes place (inl (frame, here)) within beyond = (place, frame, here, subst (IsPageBeyond last) (whole bytes place) beyond)
+beyond_is_found last at bytes place (inr behind) within beyond = absurd (omega (arith, behind, within))
+
+-- all frames were looked at
+pub all_clear : (last at : ℕ) (bytes : List ℕ) (place : ℕ) → IsClear last at bytes place → length bytes ≤ place → ¬ HasPageBeyond last at bytes
+all_clear last at bytes place clear behind (way, frame, here, beyond) = clear way frame here (omega (arith, beyond.0, length-drop way bytes, behind)) beyond
+
+-- one more frame was looked at
+clear_then : (last at : ℕ) (bytes : List ℕ) (place next first : ℕ) → at + place ≡ frame_at first → next ≤ place + 4120 → IsClear last at bytes place
+    → ¬ IsPageBeyond last (drop place bytes) → IsClear last at bytes next
+clear_then last at bytes place next first here step clear other way frame there before beyond = ?
+
+pub clear_on : (last at : ℕ) (bytes : List ℕ) (place next : ℕ) → IsFrameOrEnd at bytes place → IsClear last at bytes place → place < length bytes → length bytes < 2 ^ 64
+    → ¬ IsPageBeyond last (take (length bytes - place) (drop place bytes)) → next ≡ min (place + 4120) (2 ^ 64 - 1)
+    → IsFrameOrEnd at bytes next × IsClear last at bytes next
+clear_on last at bytes place next (inl (frame, here)) clear within fits other is = ?
+clear_on last at bytes place next (inr behind) clear within fits other is = absurd (omega (arith, behind, within))

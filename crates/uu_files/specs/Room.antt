@@ -21,12 +21,12 @@ frame_at frame = 32 + frame * 4120
 
 -- from this place of a log it is so many bytes to the next frame, or to the one that begins there
 abbrev pub IsWayToFrame : ℕ → ℕ → Type 0
-IsWayToFrame at way = ∥ ((frame : ℕ) × (at + way ≡ frame_at frame)) ∥₁ × ((frame : ℕ) → at ≤ frame_at frame → at + way ≤ frame_at frame)
+IsWayToFrame at way = ((frame : ℕ) × (at + way ≡ frame_at frame)) × ((frame : ℕ) → at ≤ frame_at frame → at + way ≤ frame_at frame)
 
 -- one of the frames whose number is in these bytes, which are for this place of a log, is of a page
 -- beyond the last one
 abbrev pub HasPageBeyond : ℕ → ℕ → List ℕ → Type 0
-HasPageBeyond last at bytes = ∥ ((way : ℕ) × (frame : ℕ) × (at + way ≡ frame_at frame) × IsPageBeyond last (drop way bytes)) ∥₁
+HasPageBeyond last at bytes = (way : ℕ) × (frame : ℕ) × (at + way ≡ frame_at frame) × IsPageBeyond last (drop way bytes)
 
 -- the file behind, which gets the calls that aren't refused
 abbrev pub unlimited : {D : Type 0} → Limited D → D

@@ -1,5 +1,5 @@
 //! A log that takes no page beyond a limit.
-ghost use Rattle.std.specs.Prelude.{◌≡◌, ◌+◌, ◌↔◌, false, IfSome, IsErr, IsTrue};
+ghost use Rattle.std.specs.Prelude.{◌≡◌, ◌+◌, ◌↔◌, false, IsErr, IsSomeAnd, IsTrue};
 ghost use Rattle.sqlite_disk.specs.Disk.{CountsFault};
 ghost use Rattle.sqlite_disk.specs.Refusal.{finds_no_room};
 ghost use Rattle.uu_files.specs.Room.{HasPageBeyond, IsPageBeyond, IsWayToFrame};
@@ -44,15 +44,16 @@ impl<D: Disk> Limited<D> {
 fn admit(most: Option<usize>, refused: &mut u64, at: usize, bytes: &[u8]) -> io::Result<()>
     ensures faults { CountsFault result refused.old refused.new }
     ensures kind { finds_no_room result ≡ false }
-    ensures refused { IsErr result ↔ IfSome most (λ last. HasPageBeyond last at bytes.now) }
+    ensures refused { IsErr result ↔ IsSomeAnd most (λ last. HasPageBeyond last at bytes.now) }
 {
-    match most {
-        Some(last) if has_page_beyond(last, at, bytes) => {
-            *refused = refused.saturating_add(1);
-            Err(io::Error::other("the spool has reached its limit"))
-        }
-        _ => Ok(()),
+    let Some(last) = most else {
+        return Ok(());
+    };
+    if !has_page_beyond(last, at, bytes) {
+        return Ok(());
     }
+    *refused = refused.saturating_add(1);
+    Err(io::Error::other("the spool has reached its limit"))
 }
 
 // Whether one of the frames that begin in these bytes, which are for this place of a log, is of a
@@ -60,8 +61,9 @@ fn admit(most: Option<usize>, refused: &mut u64, at: usize, bytes: &[u8]) -> io:
 fn has_page_beyond(last: usize, at: usize, bytes: &[u8]) -> bool
     ensures { IsTrue result ↔ HasPageBeyond last at bytes.now }
 {
+    let end = bytes.len();
     let mut place = way_to_frame(at);
-    while place < bytes.len() {
+    while place < end {
         if is_page_beyond(last, &bytes[place..]) {
             return true;
         }
@@ -71,16 +73,15 @@ fn has_page_beyond(last: usize, at: usize, bytes: &[u8]) -> bool
 }
 
 // The bytes from this place of a log to the next frame.
+#[tactic(auto, using(crate::proofs::Frames::frame_is_here, crate::proofs::Frames::frame_comes))]
 fn way_to_frame(at: usize) -> usize
     ensures { IsWayToFrame at result }
 {
     if at <= HEADER {
         return HEADER - at;
     }
-    match (at - HEADER) % FRAME {
-        0 => 0,
-        gone => FRAME - gone,
-    }
+    let gone = (at - HEADER) % FRAME;
+    if gone == 0 { 0 } else { FRAME - gone }
 }
 
 // Whether a frame, which begins with these bytes, is of a page beyond the last one.

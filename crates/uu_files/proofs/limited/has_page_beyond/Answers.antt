@@ -1,0 +1,18 @@
+use Rattle.uu_files.proofs.Frames.{all_clear, beyond_is_found, clear_at_first, clear_on}
+use Rattle.uu_files.proofs.limited.has_page_beyond.Goals as goal
+
+pub loop-place-init : goal.loop-place-init
+loop-place-init c = clear_at_first c.args.last c.args.at c.args.bytes.now c.way_to_frame-place.result c.way_to_frame-place.ensures
+
+pub returns-then-is_page_beyond : goal.returns-then-is_page_beyond
+returns-then-is_page_beyond c = (
+  λ _. beyond_is_found c.args.last c.args.at c.args.bytes.now c.loop-place.place c.loop-place.invariant.0 ? (c.if-is_page_beyond.ensures.0 tt),
+  λ _. tt,
+)
+
+pub loop-place-preserved : goal.loop-place-preserved
+loop-place-preserved c = clear_on c.args.last c.args.at c.args.bytes.now c.loop-place.place c.saturating_add-place.result c.loop-place.invariant.0 c.loop-place.invariant.1
+    ? ? (λ beyond. c.if-is_page_beyond.ensures.1 beyond) c.saturating_add-place.ensures
+
+pub returns : goal.returns
+returns c = (λ no. absurd no, λ found. absurd (all_clear c.args.last c.args.at c.args.bytes.now c.loop-place.place c.loop-place.invariant.1 ? found))
