@@ -17,8 +17,8 @@ def trace(request, process=0):
         raise OSError(ctypes.get_errno(), "ptrace")
 
 
-def stops_of(words, folder, most=None, stdin=subprocess.DEVNULL):
-    """Runs a program that has to end with status 0, and kills it at this number of beginnings
+def stops_of(words, folder, most=None, stdin=subprocess.DEVNULL, wanted=0):
+    """Runs a program that has to end with this status, and kills it at this number of beginnings
     and ends of system calls. Returns how many it reached."""
     how = {"cwd": folder, "stdin": stdin, "stdout": subprocess.DEVNULL, "preexec_fn": lambda: trace(TRACEME)}
     with subprocess.Popen(words, **how) as ran:
@@ -26,7 +26,7 @@ def stops_of(words, folder, most=None, stdin=subprocess.DEVNULL):
             _, status = os.waitpid(ran.pid, 0)
             if not os.WIFSTOPPED(status):
                 ran.returncode = os.waitstatus_to_exitcode(status)
-                if ran.returncode:
+                if ran.returncode != wanted:
                     raise Wrong(f"{' '.join(words)} ended with {ran.returncode}")
                 return stops
             if stops == most:

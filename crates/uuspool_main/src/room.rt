@@ -4,7 +4,6 @@ use crate::log_length;
 use crate::stretch::{Answer, Invocation};
 use crate::trouble::Trouble;
 use std::fs;
-use uu_names::text::MAX_TEXT;
 use uu_site::Places;
 use uu_store::{Room, StoreFault, StoreKind};
 use uuspool::{CommandLine, Fault, Settings, Task};
@@ -54,14 +53,6 @@ impl Bringing {
         Some(Bringing {
             limit: settings.limit as u64,
             most: input.len() as u64,
-        })
-    }
-
-    /// What the next request of a batch may bring in.
-    pub(crate) fn of_batch(settings: &Settings) -> Option<Bringing> {
-        Some(Bringing {
-            limit: settings.limit as u64,
-            most: MAX_TEXT as u64,
         })
     }
 }

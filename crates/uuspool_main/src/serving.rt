@@ -326,7 +326,7 @@ pub(crate) fn serve_batch(rt: &HostRuntime, settings: &Settings) -> Result<u8, T
         make_reserve(rt, &places, Share::Quarter);
     }
     drop(turn);
-    ended(rt, &places, Bringing::of_batch(settings), answer.end)
+    ended(rt, &places, None, answer.end)
 }
 
 /// Takes the turn at a spool, if its folder is this user's.
