@@ -66,6 +66,7 @@ runs:
 	@tests/seals
 	@tests/damaged-files
 	@tests/operate
+	@tests/limits
 	@tests/fronts
 	@tests/backup
 	@tests/attacks

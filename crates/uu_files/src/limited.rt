@@ -67,7 +67,10 @@ fn has_page_beyond(last: usize, at: usize, bytes: &[u8]) -> bool
         if is_page_beyond(last, &bytes[place..]) {
             return true;
         }
-        place = place.saturating_add(FRAME);
+        if end - place <= FRAME {
+            return false;
+        }
+        place += FRAME;
     }
     false
 }

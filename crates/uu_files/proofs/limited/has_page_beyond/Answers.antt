@@ -1,4 +1,5 @@
-use Rattle.uu_files.proofs.Frames.{all_clear, beyond_is_found, clear_at_first, clear_on}
+use Rattle.std.proofs.Common.{refl}
+use Rattle.uu_files.proofs.Frames.{all_clear, beyond_is_found, clear_at_first, clear_then}
 use Rattle.uu_files.proofs.limited.has_page_beyond.Goals as goal
 
 pub loop-place-init : goal.loop-place-init
@@ -6,13 +7,13 @@ loop-place-init c = clear_at_first c.args.last c.args.at c.args.bytes.now c.way_
 
 pub returns-then-is_page_beyond : goal.returns-then-is_page_beyond
 returns-then-is_page_beyond c = (
-  λ _. beyond_is_found c.args.last c.args.at c.args.bytes.now c.loop-place.place c.loop-place.invariant.0 ? (c.if-is_page_beyond.ensures.0 tt),
-  λ _. tt,
+  λ _. beyond_is_found c.args.last c.args.at c.args.bytes.now c.loop-place.place c.loop-place.invariant.0 (c.if-is_page_beyond.ensures.0 refl),
+  λ _. refl,
 )
 
 pub loop-place-preserved : goal.loop-place-preserved
-loop-place-preserved c = clear_on c.args.last c.args.at c.args.bytes.now c.loop-place.place c.saturating_add-place.result c.loop-place.invariant.0 c.loop-place.invariant.1
-    ? ? (λ beyond. c.if-is_page_beyond.ensures.1 beyond) c.saturating_add-place.ensures
+loop-place-preserved c = clear_then c.args.last c.args.at c.args.bytes.now c.loop-place.place c.loop-place.invariant.0 c.loop-place.invariant.1
+    (λ beyond. let no = c.if-is_page_beyond.ensures.1 beyond in absurd cc)
 
 pub returns : goal.returns
-returns c = (λ no. absurd no, λ found. absurd (all_clear c.args.last c.args.at c.args.bytes.now c.loop-place.place c.loop-place.invariant.1 ? found))
+returns c = (λ no. absurd cc, λ found. absurd (all_clear c.args.last c.args.at c.args.bytes.now c.loop-place.place c.loop-place.invariant.1 c.loop-place-test.false found))
