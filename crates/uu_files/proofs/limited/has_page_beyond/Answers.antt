@@ -1,4 +1,4 @@
-use Rattle.std.proofs.Common.{refl}
+use Rattle.std.proofs.Common.{refl, ◌+◌, arith}
 use Rattle.uu_files.proofs.Frames.{all_clear, beyond_is_found, clear_at_first, clear_then}
 use Rattle.uu_files.proofs.limited.has_page_beyond.Goals as goal
 
@@ -17,3 +17,11 @@ loop-place-preserved c = clear_then c.args.last c.args.at c.args.bytes.now c.loo
 
 pub returns : goal.returns
 returns c = (λ no. absurd cc, λ found. absurd (all_clear c.args.last c.args.at c.args.bytes.now c.loop-place.place c.loop-place.invariant.1 c.loop-place-test.false found))
+
+pub returns-then-end-place-le-FRAME : goal.returns-then-end-place-le-FRAME
+returns-then-end-place-le-FRAME c =
+    let then = clear_then c.args.last c.args.at c.args.bytes.now c.loop-place.place c.loop-place.invariant.0 c.loop-place.invariant.1
+      (λ beyond. let no = c.if-is_page_beyond.ensures.1 beyond in absurd cc) in (
+      λ no. absurd cc,
+      λ found. absurd (all_clear c.args.last c.args.at c.args.bytes.now (c.loop-place.place + 4120) then.1 (omega (arith, c.if-end-place-le-FRAME.true)) found),
+    )
