@@ -8,7 +8,9 @@ use uu_site::Places;
 use uu_store::{Room, StoreFault, StoreKind};
 use uuspool::{CommandLine, Fault, Settings, Task};
 
-/// The bytes of pages that a change writes beside twice those of its input, at most.
+/// The pages of a change have at most so many times the bytes of its input, as with many small jobs
+/// of a bundle, and so many more.
+const TIMES: u64 = 4;
 const BESIDE: u64 = 65_536;
 
 /// The room of an invocation. What only reads or takes away isn't limited, so that nobody is locked
@@ -74,7 +76,7 @@ pub(crate) fn limit_reached(
         return None;
     };
     let log = log_length(rt, places.spool.as_str()).unwrap_or(0);
-    let written = most.saturating_mul(2).saturating_add(BESIDE);
+    let written = most.saturating_mul(TIMES).saturating_add(BESIDE);
     let length = file.len().saturating_add(log).saturating_add(written);
     if length > limit { Some(limit) } else { None }
 }
