@@ -11,6 +11,7 @@ use uuspool::{CommandLine, Fault, Settings, Task};
 /// The pages of a change have at most so many times the bytes of its input, as with many small jobs
 /// of a bundle, and so many more.
 const TIMES: u64 = 4;
+
 const BESIDE: u64 = 65_536;
 
 /// The room of an invocation. What only reads or takes away isn't limited, so that nobody is locked
@@ -39,22 +40,26 @@ fn brings_in(task: &Task) -> bool {
     )
 }
 
-/// What comes into the spool: at most so many bytes, up to a limit.
+/// What comes into a spool with this limit: an input of so many bytes.
 #[derive(Clone, Copy)]
-pub(crate) struct Bringing {
+pub(crate) struct Incoming {
     limit: u64,
-    most: u64,
+    bytes: u64,
 }
 
-impl Bringing {
+impl Incoming {
     /// What a line brings in with this input, if it brings anything.
-    pub(crate) fn of_line(settings: &Settings, line: &CommandLine, input: &[u8]) -> Option<Bringing> {
+    pub(crate) fn of_line(
+        settings: &Settings,
+        line: &CommandLine,
+        input: &[u8],
+    ) -> Option<Incoming> {
         if !brings_in(&line.task) {
             return None;
         }
-        Some(Bringing {
+        Some(Incoming {
             limit: settings.limit as u64,
-            most: input.len() as u64,
+            bytes: input.len() as u64,
         })
     }
 }
@@ -65,10 +70,10 @@ impl Bringing {
 pub(crate) fn limit_reached(
     rt: &HostRuntime,
     places: &Places,
-    bringing: Option<Bringing>,
+    incoming: Option<Incoming>,
     fault: StoreFault,
 ) -> Option<u64> {
-    let Bringing { limit, most } = bringing?;
+    let Incoming { limit, bytes } = incoming?;
     if !matches!(fault, StoreFault::Store(StoreKind::Disk)) {
         return None;
     }
@@ -76,7 +81,7 @@ pub(crate) fn limit_reached(
         return None;
     };
     let log = log_length(rt, places.spool.as_str()).unwrap_or(0);
-    let written = most.saturating_mul(TIMES).saturating_add(BESIDE);
+    let written = bytes.saturating_mul(TIMES).saturating_add(BESIDE);
     let length = file.len().saturating_add(log).saturating_add(written);
     if length > limit { Some(limit) } else { None }
 }

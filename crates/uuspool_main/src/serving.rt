@@ -6,7 +6,7 @@ ghost use Rattle.uuspool_main.specs.Stretch.{HasMoment};
 
 use crate::given::{Given, given_for, moment_for};
 use crate::logged::{change_of, first_line, log_answer};
-use crate::room::{Bringing, limit_reached};
+use crate::room::{Incoming, limit_reached};
 use crate::sealing::Sealing;
 use crate::stretch::{Answer, Invocation, Rest, work_on_file};
 use crate::trouble::{Trouble, print_warning};
@@ -97,7 +97,7 @@ fn serve_ready(
 #[derive(Drop)]
 struct Answered {
     answer: Answer,
-    bringing: Option<Bringing>,
+    incoming: Option<Incoming>,
     noted: Result<(), SiteFault>,
 }
 
@@ -115,9 +115,9 @@ fn answer_in_turn(
 {
     match turn_at(rt, places) {
         Ok(turn) => {
-            let bringing = Bringing::of_line(settings, &line, &given.input);
+            let incoming = Incoming::of_line(settings, &line, &given.input);
             let answered = match serve_with_room(rt, settings, places, &turn, words, line, given) {
-                Ok(served) => Ok(noted_in_log(rt, settings, places, change, bringing, served)),
+                Ok(served) => Ok(noted_in_log(rt, settings, places, change, incoming, served)),
                 Err(trouble) => Err(trouble),
             };
             drop(turn);
@@ -138,7 +138,7 @@ fn noted_in_log(
     settings: &Settings,
     places: &Places,
     change: &Option<Change>,
-    bringing: Option<Bringing>,
+    incoming: Option<Incoming>,
     served: Served,
 ) -> Answered {
     let Served { answer, share } = served;
@@ -151,7 +151,7 @@ fn noted_in_log(
     }
     Answered {
         answer,
-        bringing,
+        incoming,
         noted,
     }
 }
@@ -242,7 +242,7 @@ fn spare_for(task: &Task, input: &Vec<u8>) -> Option<Vec<u8>> {
     }
 }
 
-// Whether a task changes the spool without bringing bytes into it, so that a full disk should not
+// Whether a task changes the spool without incoming bytes into it, so that a full disk should not
 // refuse it.
 fn takes_away(task: &Task) -> bool {
     matches!(
@@ -306,10 +306,10 @@ fn tell(
 ) -> Result<u8, Trouble> {
     let Answered {
         answer,
-        bringing,
+        incoming,
         noted,
     } = answered;
-    let end = print_answer(rt, places, sealing, change, bringing, answer);
+    let end = print_answer(rt, places, sealing, change, incoming, answer);
     if let Err(fault) = &noted {
         print_warning(rt, fault);
     }
@@ -410,7 +410,7 @@ fn print_answer(
     places: &Places,
     sealing: &Sealing,
     change: &Option<Change>,
-    bringing: Option<Bringing>,
+    incoming: Option<Incoming>,
     answer: Answer,
 ) -> Result<u8, Trouble> {
     let Answer { end, output } = answer;
@@ -418,7 +418,7 @@ fn print_answer(
         Ok(0) => sealing.sealed(rt.alloc(), output)?,
         _ => output,
     };
-    match (print(rt, &output), ended(rt, places, bringing, end)) {
+    match (print(rt, &output), ended(rt, places, incoming, end)) {
         (Err(error), Ok(_)) => Err(Trouble::Unprinted {
             error,
             told: told_instead(rt, change, &output)?,
@@ -446,12 +446,12 @@ pub(crate) fn print(rt: &HostRuntime, bytes: &[u8]) -> io::Result<()> {
 pub(crate) fn ended(
     rt: &HostRuntime,
     places: &Places,
-    bringing: Option<Bringing>,
+    incoming: Option<Incoming>,
     end: Result<u8, Fault>,
 ) -> Result<u8, Trouble> {
     match end {
         Ok(status) => Ok(status),
-        Err(Fault::Store(fault)) => match limit_reached(rt, places, bringing, fault) {
+        Err(Fault::Store(fault)) => match limit_reached(rt, places, incoming, fault) {
             Some(limit) => full_trouble(rt, places, limit),
             None => store_trouble(rt, places, fault),
         },

@@ -52,7 +52,9 @@ fn lines_of(
     let spool = places.spool.as_str();
     let log = places.log.as_str();
     let limit = settings.limit;
-    format!(in alloc; "name {name}\nsettings {path}\nfolder {folder}\nspool {spool}\nlog {log}\nlimit {limit}\n")
+    format!(in alloc;
+        "name {name}\nsettings {path}\nfolder {folder}\nspool {spool}\nlog {log}\nlimit {limit}\n"
+    )
 }
 
 // Adds the line of the clock, `zone` or `offset`, if the text of the settings has one of them.

@@ -21,7 +21,7 @@ returns c = (λ no. absurd cc, λ found. absurd (all_clear c.args.last c.args.at
 pub returns-then-end-place-le-FRAME : goal.returns-then-end-place-le-FRAME
 returns-then-end-place-le-FRAME c =
     let then = clear_then c.args.last c.args.at c.args.bytes.now c.loop-place.place c.loop-place.invariant.0 c.loop-place.invariant.1
-      (λ beyond. let no = c.if-is_page_beyond.ensures.1 beyond in absurd cc) in (
+    (λ beyond. let no = c.if-is_page_beyond.ensures.1 beyond in absurd cc) in (
       λ no. absurd cc,
       λ found. absurd (all_clear c.args.last c.args.at c.args.bytes.now (c.loop-place.place + 4120) then.1 (omega (arith, c.if-end-place-le-FRAME.true)) found),
     )
