@@ -242,7 +242,7 @@ fn spare_for(task: &Task, input: &Vec<u8>) -> Option<Vec<u8>> {
     }
 }
 
-// Whether a task changes the spool without incoming bytes into it, so that a full disk should not
+// Whether a task changes the spool without bringing bytes into it, so that a full disk should not
 // refuse it.
 fn takes_away(task: &Task) -> bool {
     matches!(
