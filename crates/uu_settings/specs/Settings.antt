@@ -66,12 +66,12 @@ words_in (item value values) = option_and_then (λ word. option_map (λ words. w
 abbrev pub admins_in : Data → Option (List (List ℕ))
 admins_in value = option_and_then words_in (as_array value)
 
--- the least limit, and that of a site that sets none: 1 MiB and 64 MiB
+-- the least limit, and that of a site that sets none: 1 MiB and 512 MiB
 abbrev pub least_limit : ℕ
 least_limit = 1_048_576
 
 abbrev pub default_limit : ℕ
-default_limit = 67_108_864
+default_limit = 536_870_912
 
 -- a number of bytes that may be a limit
 abbrev pub limit_in : Data → Option ℕ

@@ -17,7 +17,7 @@ impl Settings {
     /// text of one byte or more, are required. The clock is given by `offset`, a whole number of
     /// minutes from -1439 to 1439, or by `zone`, the text of a POSIX rule. Without both it is UTC.
     /// `admins` is an array of words; without it there are none. `seals` is a text of one byte or
-    /// more. `limit` is a whole number of bytes, 1,048,576 or more; without it it is 67,108,864.
+    /// more. `limit` is a whole number of bytes, 1,048,576 or more; without it it is 536,870,912.
     /// Other keys are ignored.
     ///
     /// # Errors

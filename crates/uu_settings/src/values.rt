@@ -20,8 +20,8 @@ const MOST_MINUTES: i64 = OFFSET_LIMIT as i64;
 /// The least limit, 1 MiB.
 const LEAST_LIMIT: i64 = 1_048_576;
 
-/// The limit of a site that sets none, 64 MiB.
-const DEFAULT_LIMIT: usize = 67_108_864;
+/// The limit of a site that sets none, 512 MiB.
+const DEFAULT_LIMIT: usize = 536_870_912;
 
 /// The name of the site.
 pub(crate) fn name_of(alloc: Global, document: &Table) -> Result<SiteName, SettingsFault>
