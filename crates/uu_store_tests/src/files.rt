@@ -15,13 +15,15 @@ use uu_store::{Command, Reply, Room, RunEnd, Spool, StoreFault, open_spool};
 
 const FILE: &str = "stretches.db";
 
-/// No limit counts.
-const ROOM: Room = Room {
-    limit: 1_048_576,
-    counts: false,
-};
-
 const LOG: &str = "stretches.db-wal";
+
+/// A limit that doesn't count.
+fn room() -> Room {
+    Room {
+        limit: 1_048_576,
+        counts: false,
+    }
+}
 
 const DUKE: Order = Order::Define("duke", ANY, 26);
 
@@ -85,7 +87,7 @@ fn ended_and_closed<E: Drop, G: Drop>(worked: (RunEnd, Result<G, E>)) -> Option<
 }
 
 fn worked<T: Start>(host: &HostRuntime, start: T, commands: Vec<Command>) -> Option<RunEnd> {
-    ended_and_let_go(host.alloc(), open_spool(host, FILE, ROOM, start), commands)
+    ended_and_let_go(host.alloc(), open_spool(host, FILE, room(), start), commands)
 }
 
 /// A stretch whose files are closed.
@@ -94,7 +96,7 @@ fn worked_and_closed<T: Start>(
     start: T,
     commands: Vec<Command>,
 ) -> Option<RunEnd> {
-    match open_spool(host, FILE, ROOM, start) {
+    match open_spool(host, FILE, room(), start) {
         Ok(spool) => ended_and_closed(run_and_close(host.alloc(), spool, commands)),
         Err(_) => None,
     }
@@ -126,7 +128,7 @@ fn expect_closed_stretch<T: Start>(
 
 /// The next job gets number 4.
 fn expect_next<T: Start>(rt: &impl Abort, host: &HostRuntime, start: T) {
-    expect_next_in_files(rt, host.alloc(), open_spool(host, FILE, ROOM, start));
+    expect_next_in_files(rt, host.alloc(), open_spool(host, FILE, room(), start));
 }
 
 /// The same for the result of an opening.
