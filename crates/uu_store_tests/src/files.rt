@@ -54,16 +54,16 @@ fn expect_end(rt: &impl Abort, end: Option<RunEnd>, want: &[Reply]) {
     assert_eq!(rt; end.replies.as_slice(), want);
 }
 
-/// Gives a spool the commands, and lets its store go. How they ended.
-fn ended_and_let_go<S: Alter + Drop, F: Drop>(
+/// Gives a spool the commands, and lets it go.
+fn run_and_let_go<D: Disk + Drop>(
     alloc: Global,
-    opened: Result<Spool<S>, F>,
+    spool: Spool<FileStore<D>>,
     commands: Vec<Command>,
-) -> Option<RunEnd> {
-    let mut spool = opened.ok()?;
+) -> RunEnd {
+    let mut spool = spool;
     let end = spool.run(alloc, commands);
     let _store = spool.into_store();
-    Some(end)
+    end
 }
 
 /// Gives a spool the commands, and closes its files.
@@ -87,7 +87,10 @@ fn ended_and_closed<E: Drop, G: Drop>(worked: (RunEnd, Result<G, E>)) -> Option<
 }
 
 fn worked<T: Start>(host: &HostRuntime, start: T, commands: Vec<Command>) -> Option<RunEnd> {
-    ended_and_let_go(host.alloc(), open_spool(host, FILE, room(), start), commands)
+    match open_spool(host, FILE, room(), start) {
+        Ok(spool) => Some(run_and_let_go(host.alloc(), spool, commands)),
+        Err(_) => None,
+    }
 }
 
 /// A stretch whose files are closed.
