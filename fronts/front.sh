@@ -13,7 +13,7 @@ export LC_ALL=C
 
 # A local user may not enter the spool's folder, so he asks by sudo, which says who he is. Lines of root
 # run as the folder's owner (see below).
-spool=$bin/uuspool member='' common=/var/spool/uuspool
+spool=$bin/uuspool member='' common=/var/spool/uuspool site='' why_not=''
 if [ -z "${UUSPOOL_DIR-}" ] && [ -d "$common" ] && ! [ -O "$common" ] && ! [ -O uuspool.toml ] && ! [ -O / ]; then
     member=yes spool="sudo -n -u $(stat -c %U "$common") -- $lib/for-user"
 fi
@@ -91,12 +91,13 @@ unknown() { fail "$usage" "no option $1: see $front --help"; }
 # A key of the terminal ends nothing that queues a piece.
 ask() {
     said=$([ -z "$its_pieces" ] || trap '' HUP INT TERM; $spool "$@" 2>&1) && return
-    case $? in
+    ended=$?
+    case $ended in
     1) status=$refused ;;
     2) if $spool name >/dev/null 2>&1; then status=$usage; else status=$later; fi ;;
     *) status=$later ;;
     esac
-    plainly "$said" >&2
+    plainly "${said:-uuspool ended with status $ended, and said nothing}" >&2
     case $member:$said in yes:'sudo: '*) fail "$status" 'members of the group uuspool may do this, from their next login on' ;; esac
     exit "$status"
 }
@@ -107,22 +108,49 @@ print() {
     [ -z "$said" ] || plainly "$said" || fail "$later" 'cannot write'
 }
 
+# Asks which site this is. $site is then what `uuspool site` printed, or else $why_not says why it printed nothing. If it
+# was killed, as by a limit, nobody knows whether there is a site.
+ask_site() {
+    [ -z "$site" ] || return 0
+    site=$("$bin/uuspool" site 2>&1) && return
+    ended=$? why_not=$site site=''
+    case $ended in
+    2 | 5) ;; # (its settings are wrong, or can't be read)
+    *) why_not="uuspool: nobody knows which site this is, because \`uuspool site\` ended with status $ended: try again, without a limit (ulimit -a)" ;;
+    esac
+    return "$ended"
+}
+
 # What `uuspool site` says after a word, for example `folder`. Anybody may ask this, because it opens no spool.
 site_says() {
-    site=$("$bin/uuspool" site 2>&1) || fail "$later" "${site#uuspool: }"
-    printf '%s\n' "$site" | sed -n "s/^$1 //p"
+    ask_site || fail "$later" "${why_not#uuspool: }"
+    while IFS= read -r its_line; do
+        case $its_line in "$1 "*) printf '%s\n' "${its_line#"$1 "}" ;; esac
+    done <<END
+$site
+END
 }
 
 # Lines of root run as the user to whom the spool's folder belongs, because files of root would lock that
-# user out. They count as root's. Nothing in the working directory counts then.
+# user out. They count as root's. Nothing in the working directory counts then. If nobody knows whose the folder is, no
+# line runs: as root it would work wherever the settings lead by then.
 act_as_owner() {
-    settings=$(site_says settings 2>/dev/null) || return 0
-    folder=$(site_says folder)
+    spool=no_site
+    ask_site || return 0
+    settings=$(site_says settings) && folder=$(site_says folder) || exit
+    why_not="uuspool: $folder, the folder of the spool, is not there"
     [ -d "$folder" ] || return 0
     expect_one_owner
+    spool=$bin/uuspool
     ! [ -O "$folder" ] || return 0
     [ "$settings" = /etc/uuspool/uuspool.toml ] || export UUSPOOL_DIR="${settings%/*}"
     spool="env $(hidden) setsid -w runuser -u $(stat -L -c %U -- "$folder") -- env -C / $bin/uuspool"
+}
+
+# What stands for the program then.
+no_site() {
+    plainly "$why_not" >&2
+    return 5
 }
 
 # Options of `env` by which the owner gets nothing else of root's environment, which may have passwords.

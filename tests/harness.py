@@ -343,3 +343,56 @@ def expect_none_left(prefix):
     with contextlib.suppress(Wrong):
         wait_for("the end of all processes", lambda: not any(processes_of(prefix)))
     same("processes that are left", [], [*processes_of(prefix)])
+
+
+# ---- what uucico begins, but not within its bounds
+
+
+def reach(top, words):
+    """Has `Outside` run a program with the streams of this process, which Landlock confines, and waits for its end. What is
+    written after that goes nowhere, as into a line."""
+    import json
+    import socket
+
+    with socket.socket(socket.AF_UNIX) as line:
+        line.connect(f"{top}/outside")
+        socket.send_fds(line, [json.dumps([words, dict(os.environ)]).encode()], [0, 1, 2])
+        line.recv(1)
+    os.close(1)
+    while os.read(0, 1 << 16):
+        pass
+
+
+class Outside:
+    """The neighbour at the other end of a line, which is another machine's: it runs what `reach` asks for."""
+
+    def __init__(self, top):
+        import socket
+        import threading
+
+        self._socket = socket.socket(socket.AF_UNIX)
+        self._socket.bind(f"{top}/outside")
+        self._socket.listen(64)
+        threading.Thread(target=self._serve, daemon=True).start()
+
+    def _serve(self):
+        import threading
+
+        with contextlib.suppress(OSError):
+            while True:
+                threading.Thread(target=self._run, args=self._socket.accept()[:1], daemon=True).start()
+
+    @staticmethod
+    def _run(line):
+        import json
+        import socket
+
+        with line, contextlib.suppress(OSError, ValueError):
+            text, handles, _, _ = socket.recv_fds(line, 1 << 17, 3)
+            try:
+                words, environment = json.loads(text)
+                child = subprocess.Popen(words, stdin=handles[0], stdout=handles[1], stderr=handles[2], env=environment)
+            finally:
+                for handle in handles:
+                    os.close(handle)
+            child.wait()

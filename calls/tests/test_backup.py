@@ -5,11 +5,12 @@ import pwd
 import resource
 import subprocess
 import time
+from unittest import mock
 
 from uuspool_calls import backup, copies, turn
 from uuspool_calls.errors import Failure
 
-from .standins import Folder
+from .standins import Folder, Quiet
 
 
 class Copies(Folder):
@@ -198,7 +199,7 @@ class Kept(Folder):
         os.symlink("/etc", f"{self.folder}/copies/mysite.20251101T000000Z")
         os.chmod(f"{self.folder}/copies", 0o700)
         with backup.Place(f"{self.folder}/copies") as place:
-            place.remove_old("mysite", 2)
+            self.assertEqual([], place.remove_old(names[-1], 2, os.geteuid()))
             left = sorted(os.listdir(place.path))
             self.assertEqual(sorted([*names[-2:], "mysite.b.20261101T000000Z", "other.20261101T000000Z", "mysite.20261101T000000Z.new", "x", "mysite.20251101T000000Z"]), left)
             with place.begun("mysite.20261103T000000Z") as (chosen, _):
@@ -210,6 +211,33 @@ class Kept(Folder):
             with self.assertRaises(KeyError), place.begun("mysite.20261104T000000Z"):
                 raise KeyError
             self.assertFalse([it for it in os.listdir(place.path) if "1104" in it])
+
+    def test_copies_of_a_later_day_are_the_oldest(self) -> None:
+        names = [f"mysite.{day}T000000Z" for day in (20261101, 20261102, 20261103, 20370101, 20370102)]
+        for name in names:
+            os.makedirs(f"{self.folder}/copies/{name}/spool")
+        with backup.Place(f"{self.folder}/copies") as place:
+            for kept, left in (4, [0, 1, 2, 4]), (2, [1, 2]), (1, [2]):
+                place.remove_old(names[2], kept, os.geteuid())
+                self.assertEqual([names[at] for at in left], sorted(os.listdir(place.path)), kept)
+
+    def test_copies_of_another_user_stay(self) -> None:
+        names = [f"mysite.2026110{day}T000000Z" for day in range(1, 6)]
+        for name in names:
+            os.makedirs(f"{self.folder}/copies/{name}/spool")
+        self.give(f"{self.folder}/copies/{names[0]}/spool")
+        os.rename(f"{self.folder}/copies/{names[1]}/spool", f"{self.folder}/copies/{names[1]}/mail")
+        os.rename(f"{self.folder}/copies/{names[2]}/spool", f"{self.folder}/elsewhere")
+        os.symlink(f"{self.folder}/elsewhere", f"{self.folder}/copies/{names[2]}/spool")
+        with backup.Place(f"{self.folder}/copies") as place, mock.patch.object(place, "_remove") as remove:
+            self.assertEqual([names[3]], place.remove_old(names[4], 1, os.geteuid()))
+            remove.assert_called_once_with(names[3])
+
+    def test_how_many_stay(self) -> None:
+        for words in ["-k", "0"], ["-k", ""], ["-k", "-1"], ["-k", "01"], ["-k", "1x"], ["-k", "1", "-k", ""]:
+            with self.assertRaisesRegex(Failure, "^usage: "):
+                backup.run(Quiet(self.folder), [*words, f"{self.folder}/copies"])
+        self.assertFalse(os.path.exists(f"{self.folder}/copies"))
 
     def test_a_folder_of_somebody_else(self) -> None:
         os.mkdir(f"{self.folder}/copies")

@@ -1,6 +1,7 @@
 """What the commands do with words, and small decisions of theirs."""
 import os
 import pwd
+import signal
 from unittest import mock
 from unittest.mock import patch
 
@@ -153,6 +154,27 @@ class Carriers(Folder):
         self.assertEqual('carrier = "folder"\nwords = ["/\u00fc", "a\\"\\\\"]\nport = "a"\n', self.call_by(same, "/\u00fc", 'a"\\'))
         self.call_by("piece = 5_000\nmounted = true\n", "/x")
         self.assertEqual({"carrier": "folder", "words": ["/x"], "piece": 5000, "mounted": True}, carriers.values_of(self.session, "duke"))
+
+    def test_the_key_with_which_this_site_calls(self) -> None:
+        self.put_program()
+        self.session.program = f"{self.folder}/bin/uuspool"
+        for path in "s/a b.db", "uuspool.toml":
+            self.put(path, "x")
+        its, path = setup.Setup(self.session, "duke"), self.put("etc/keys/duke.pub", "ssh-ed25519 AAAA mysite\n")
+        self.assertEqual(["ssh-ed25519", "AAAA"], its._public_key())
+        secret, kept = self.put("secret", "ssh-ed25519 SECRET root\n"), "etc/keys/duke.pub"
+        self.addCleanup(signal.signal, signal.SIGALRM, signal.signal(signal.SIGALRM, signal.default_int_handler))
+        self.addCleanup(signal.alarm, 0)
+        signal.alarm(20)
+        for change in (
+            lambda: os.symlink(secret, path), lambda: os.mkfifo(path), lambda: os.mkdir(path), lambda: self.put(kept, "secret"), lambda: self.put(kept, ""),
+            lambda: self.put(kept, "ssh-ed25519 AAAA mysite" + " " * (1 << 14)), lambda: self.give(self.put(kept, "ssh-ed25519 AAAA mysite\n")),
+        ):  # fmt: skip
+            os.rmdir(path) if os.path.isdir(path) else files.remove(path)
+            change()
+            why = f"^{path} is no public key in a file of .*: move it and {path[:-4]} away, and run this line again, which makes a new key$"
+            with self.assertRaisesRegex(Failure, why):
+                its._public_key()
 
     def test_bundles_in_a_folder(self) -> None:
         session = Quiet(self.folder)
@@ -342,6 +364,8 @@ class Small(Folder):
         self.assertEqual(b"xy", files.read_bytes(self.put("x", "xyz"), 2))
         for text in "[" * 200_000, "[]", "{", '{"a": ' * 200_000:
             self.assertEqual({}, files.read_record(self.put("x", text)))
+        large = self.put("x", '{"a": "%s"}' % ("x" * (1 << 20)))
+        self.assertEqual((0, 1), (len(files.read_record(large)), len(files.read_record(large, 1 << 21))))
 
     def test_what_a_check_prints_is_no_order_for_a_terminal(self) -> None:
         session = Quiet(self.folder)

@@ -1,11 +1,12 @@
 """What becomes of a bundle, of refused jobs and of moves, with a spool of tables."""
 import json
 import os
+import re
 import signal
 import time
 from unittest import mock
 
-from uuspool_calls import moves
+from uuspool_calls import moves, works
 from uuspool_calls.errors import Failure, SpoolError
 from uuspool_calls.exchange import Neighbour, NoBundle, NotTaken, expect_size
 from uuspool_calls.jobs import Job
@@ -211,6 +212,16 @@ class Refusing(Folder):
         self.addCleanup(signal.alarm, 0)
         self.assertIsNone(Kept.read(f"{self.folder}/refused/7"))
 
+    def test_files_of_holes_fill_no_memory(self) -> None:
+        for path in "refused/7", "calls/duke.waits", "spool.db-word", "deliver/7.works":
+            self.put(path, "1")
+            os.truncate(f"{self.folder}/{path}", 1 << 42)
+        self.assertTrue(self.refuse())
+        self.assertEqual(b"no such newsgroup\n", self.bytes_of("refused/7.2")[:18])
+        self.assertEqual("", Neighbour(self.site, "duke", [])._looks_for_room())
+        self.assertEqual((0, b""), works._named(f"{self.folder}/deliver/7.works"))
+        self.assertEqual("1", self.site.word()[:1])
+
     def test_no_letter_about_a_letter(self) -> None:
         self.assertTrue(self.refuse(ann="a!MAILER-DAEMON"))
         self.assertEqual([], self.mailer.ran)
@@ -249,6 +260,21 @@ class Refusing(Folder):
         letters = [words for words in self.spool.asked if words[0] == "mail"]
         self.assertEqual([("mail", "--once=mysite!1!refused", "--", "unc!postmaster")], letters)
         self.assertEqual(60, len(os.listdir(f"{self.folder}/refused")) - 1)
+
+    def test_one_letter_counts_the_refusals_of_one_user(self) -> None:
+        counts = {"ann": 21, "bob": 30, "eve": 1}
+        users = [user for user, count in counts.items() for _ in range(count)]
+        for number, user in enumerate(users, 1):
+            Refuser(self.site).refuse(parcel(LINE.replace("7", str(number), 1).replace("ann", user)), f"no room for {user}")
+        self.assertEqual(0, tell(self.site))
+        letters = {words[-1]: letter.decode() for words, letter in self.mailer.ran}
+        self.assertEqual((3, set(counts)), (len(self.mailer.ran), set(letters)))
+        for user, count in counts.items():
+            letter = letters[user]
+            self.assertEqual({user}, set(re.findall(r"no room for (\w+)", letter)))
+            if count > 1:
+                self.assertIn(f"\nSubject: refused: {count} jobs\n", letter)
+                self.assertEqual(count, letter.count("no room for"))
 
     def test_who_takes_none_of_its_letters_gets_no_more(self) -> None:
         letters, others = ([parcel(LINE.replace("7", str(at), 1).replace("ann", user)) for at in range(first, first + 1000)] for first, user in ((1, "MAILER-DAEMON"), (2000, "ann")))

@@ -1,11 +1,12 @@
 """What the page makes of the program's answers, and of what is beside the spool."""
+import os
 import re
 
 from uuspool_calls import page
 from uuspool_calls.errors import Failure
 from uuspool_calls.jobs import Job
 from uuspool_calls.page.answers import Answers
-from uuspool_calls.page.beside import Beside, refused_in
+from uuspool_calls.page.beside import Beside, calls_of, log_of, refused_in
 from uuspool_calls.page.times import Clock
 from uuspool_calls.page.whole import Page
 from uuspool_calls.pieces import About, Piece
@@ -88,3 +89,15 @@ class Pages(Folder):
         big = "send /big ~/big"
         self.assertEqual([("ann", "duke", "exec lp", "unknown"), ("ann", "duke", big, "too old"), ("unc!joe", "mysite", big, "no room")], found)
         self.assertLessEqual({"7", "9"}, {number for number, *_ in refused_in(f"{self.folder}/refused")})
+
+    def test_a_log_with_holes_and_torn_lines(self) -> None:
+        line = "2026-11-28 12:00:00 duke ann - done done duke\n"
+        log = self.put("log", f"2026-11-28 12:0\0\0 duke ann - done done duke\n2026-11-28 12:00 duke ann - done done\n{line}")
+        self.assertEqual([("duke", "done")], [(it.system, it.how) for it in calls_of(log_of(log, "2026-11-28"), "mysite")])
+        os.truncate(log, 1 << 40)
+        with open(log, "a", encoding="ascii") as file:
+            file.write(f"\n{line}")
+        self.assertEqual([line.rstrip("\n").split(" ")], log_of(log, "2026-11-28"))
+        os.remove(log)
+        os.mkfifo(log)
+        self.assertEqual([], log_of(log, "2026-11-28"))

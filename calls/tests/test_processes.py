@@ -1,14 +1,17 @@
 """Programs that are run, locks, and files that are replaced."""
 import os
+import re
 import signal
 import threading
 import time
+from unittest import mock
 
-from uuspool_calls import contacts, files
+from uuspool_calls import contacts, files, night
 from uuspool_calls import processes as running
 from uuspool_calls.errors import Failure, Stopped
 from uuspool_calls.processes import Child, Children, Processes, Program
 
+from . import standins
 from .standins import Folder
 
 
@@ -138,15 +141,38 @@ class Stops(Folder):
         number = int(self.bytes_of("pid"))
         self.assertFalse(os.path.exists(f"/proc/{number}/exe"))
 
-    def test_what_kills_its_timeout_is_ended(self) -> None:
-        program = Program(["sh", "-c", f"echo $$ >{self.folder}/pid; kill -KILL $PPID; sleep 1000"], self.folder, dict(os.environ), 100)
-        self.assertEqual(137, Processes().run(program).status)
-        self.expect_end(int(self.bytes_of("pid")))
+    def test_what_fails_leaves_nothing(self) -> None:
+        """Also if it ends its `timeout`, or begins a session. What ends well leaves it: a mailer goes on so."""
+        far = f"setsid sh -c 'sleep 1000 & echo $! >{self.folder}/pid; exec sleep 1000' & until [ -s pid ]; do sleep 0.02; done"
+        for script, limit, status in (
+            ("echo $$ >pid; kill -KILL $PPID; sleep 1000", 100, 137), (f"{far}; exit 3", 100, 3), (f"{far}; sleep 1000", 0.5, 124), (f"{far}; kill -KILL $PPID", 100, 137), (f"{far}; exit 0", 100, 0),
+        ):  # fmt: skip
+            program = Program(["sh", "-c", script], self.folder, dict(os.environ), limit, leaves_none=True)
+            child = Child(lambda program=program: Processes().run(program).status)
+            self.assertEqual(status, child.wait(), script)
+            number = int(self.bytes_of("pid"))
+            self.assertEqual(status != 0, not os.path.exists(f"/proc/{number}/exe"), script)
+            if not status:
+                os.kill(number, signal.SIGKILL)
+            os.remove(f"{self.folder}/pid")
 
-    def test_what_leaves_a_daemon_and_ends_by_itself_leaves_it(self) -> None:
-        program = Program(["sh", "-c", f"sleep 1000 & echo $! >{self.folder}/pid; exit 3"], self.folder, dict(os.environ), 100)
-        self.assertEqual(3, Processes().run(program).status)
-        os.kill(int(self.bytes_of("pid")), signal.SIGKILL)
+    def test_others_are_left(self) -> None:
+        def work() -> int:
+            other = Child(lambda: time.sleep(100) or 0)
+            Processes().run(Program(["sh", "-c", "sleep 1000 & exit 3"], self.folder, dict(os.environ), 100, leaves_none=True))
+            left = running._children()
+            other.kill()
+            return 0 if left == {other.pid} else 1
+
+        self.assertEqual(0, Child(work).wait())
+
+    def test_what_cannot_be_ended_is_not_waited_for(self) -> None:
+        begun = time.monotonic()
+        with mock.patch.object(running, "_MARGIN", 0.3), mock.patch("os.kill"):
+            child = Child(lambda: time.sleep(100) or 0)
+            running._end_children(())
+        child.kill()
+        self.assertEqual((137, True), (child.wait(), 0.3 <= time.monotonic() - begun < 30))
 
     def test_a_signal_that_is_ignored_ends_nothing(self) -> None:
         def work(processes: Processes) -> None:
@@ -309,6 +335,20 @@ class Files(Folder):
         for text in b"", b"{", b"[]", b'{"held": "yes", "called": null, "more": 1, "other": null}':
             self.put("calls/duke.json", text)
             self.assertEqual(contacts.Contact(), known.find("duke"), text)
+
+    def test_a_large_record_of_contacts(self) -> None:
+        site, path = standins.site(self.folder, standins.StandIn()), f"{self.folder}/calls/duke.json"
+        self.put("calls/duke.json", b'{"held": true, "same": "%s"}' % (b"x" * ((1 << 16) - 30)))
+        self.assertEqual(["duke"], site.contacts.held())
+        self.put("calls/duke.json", b'{"held": true}' + b" " * (1 << 16))
+        why = f"{path} has more than 64 KiB, so these commands did not write it: remove it, and hold duke again if it was held"
+        for uses in site.contacts.held, lambda: site.contacts.change_if_possible("duke", called=1):
+            with self.assertRaisesRegex(Failure, f"^{re.escape(why)}$"):
+                uses()
+        self.put("etc/calls/duke", "ssh duke.example")
+        self.put("lib/uuspool/carriers/ssh", "", 0o755)
+        self.assertFalse(night.Night(site)._is_quiet("duke", 60))
+        self.assertEqual([why], site.session.said)  # type: ignore[attr-defined]
 
     def test_many_changes_of_contacts_at_once(self) -> None:
         known = contacts.Contacts(self.folder)

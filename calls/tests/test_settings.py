@@ -1,5 +1,6 @@
 """Finding the site."""
-from uuspool_calls import settings
+from uuspool_calls import check, cli, page, settings
+from uuspool_calls.errors import LATER, Failure
 
 from .standins import SITE, Folder, Quiet
 
@@ -31,6 +32,16 @@ class Settings(Folder):
         self.put("bin/uuspool", "#!/bin/sh\n[ $* = site ] && echo 'uuspool: cannot read /x' >&2\nexit 5\n", 0o755)
         with self.assertRaisesRegex(settings.NoSite, "^uuspool: cannot read /x$"):
             settings.find(session)
+
+    def test_a_program_that_is_killed(self) -> None:
+        session = Quiet(self.folder)
+        for script, ended in ("kill -KILL $$", 137), ("ulimit -t 1; while :; do :; done", 137), ("kill -SEGV $$", 139), ("exit 4", 4):
+            self.put("bin/uuspool", f"#!/bin/sh\n{script}\n", 0o755)
+            with self.assertRaisesRegex(Failure, f"^nobody knows which site this is, because `.*/bin/uuspool site` ended with status {ended}: try again") as caught:
+                settings.find(session)
+            self.assertEqual((LATER, False), (caught.exception.status, isinstance(caught.exception, settings.NoSite)))
+        self.assertEqual((LATER, 3), (cli.run(session, check.run, []), cli.run(session, page.run, [])))
+        self.assertEqual(([], 2), (session.printed, len(session.said)))
 
     def test_unknown_keys_have_their_lines(self) -> None:
         path = self.put("uuspool.toml", 'name = "a"\n"timezone" = "UTC"\nspool = "spool.db"\n[more]\nx = 1\n')

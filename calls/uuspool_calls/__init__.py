@@ -8,13 +8,13 @@ is stopped and it has a limit. No module keeps a state of its own, and no shell 
 From below, each importing only what stands before it (`calls/tests/test_layers.py` checks that):
 
     errors texts clock values digests options  words, times, and how a command ends
-    files processes                         what is on the disk, and what runs
+    files kernel processes                  what is on the disk, and what runs
     session settings contacts forward journal jobs spool site
     figures monitor metrics turn copies     what operators watch, and how a site is copied
     bundle public commands pieces records works  what neighbours send, and what is kept of it
     envelope                                what mail of a neighbour begins with
     letters refusals moves exchange         what becomes of jobs
-    taylor taylorsys taylorcheck wholes errands handover  Taylor UUCP, and the jobs that it has
+    confine taylor taylorsys taylorcheck wholes errands handover  Taylor UUCP, and the jobs that it has
     delivery carriers outgoing              how a job is delivered, a neighbour called, and a file queued
     seals                                   the keys of neighbours
     traffic progress forecast               how much a call carries, and how fast

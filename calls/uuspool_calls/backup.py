@@ -37,8 +37,8 @@ _HOME = "/var/lib/uuspool"
 def run(session: Session, words: Sequence[str]) -> int:
     """The command."""
     given, names = options.read(words, "k:", _USAGE)
-    kept = given.get("k", "")
-    if len(names) != 1 or not (kept == "" or is_number(kept) and int(kept)):
+    kept = given.get("k")
+    if len(names) != 1 or not (kept is None or is_number(kept) and int(kept)):
         raise Failure(USAGE, _USAGE)
     place = os.path.abspath(names[0])
     found = find_from_anywhere(session)
@@ -48,12 +48,11 @@ def run(session: Session, words: Sequence[str]) -> int:
     with Place(place) as copies:
         backup = Backup(session, found, copies)
         path = backup.make()
-        if kept and not backup.faults:
-            copies.remove_old(found.name, int(kept))
+        stay = copies.remove_old(os.path.basename(path), int(kept), backup.number) if kept and not backup.faults else []
     session.print(path)
-    faults = [*backup.left_out, *backup.faults]
+    faults = [*(f"{path}: {it}" for it in (*backup.left_out, *backup.faults)), *(f"{place}/{it} cannot be removed" for it in stay)]
     for fault in faults:
-        session.say(f"{path}: {fault}")
+        session.say(fault)
     return 1 if faults else 0
 
 
@@ -116,21 +115,32 @@ class Place:
             return True
         return False
 
-    def remove_old(self, own: str, kept: int) -> None:
-        """Removes the oldest copies of a site, so that so many stay."""
-        found = [match for match in map(_COPY.match, os.listdir(self.handle)) if match and match[1] == own and self._is_folder(match[0])]
-        found.sort(key=lambda match: (match[2], int(match[3] or 1)))
-        for match in found[:-kept]:
-            self._remove(match[0])
+    def remove_old(self, new: str, kept: int, owner: int) -> list[str]:
+        """Removes the oldest copies of a site whose spool is this user's, so that so many stay with the new one. Those that
+        can't be removed. (That user may give the site another one's name. A clock that was ahead made copies of a later day,
+        which count as the oldest.)"""
+        own, made, _ = _parts_of(new)
+        found = [it for it in os.listdir(self.handle) if it != new and _COPY.match(it) and _parts_of(it)[0] == own and self._is_copy(it, owner)]
+        found.sort(key=lambda it: (_parts_of(it)[1] <= made, *_parts_of(it)[1:]), reverse=True)
+        for name in found[kept - 1 :]:
+            self._remove(name)
+        return [name for name in found[kept - 1 :] if self._is_copy(name, owner)]
 
-    def _is_folder(self, name: str) -> bool:
-        seen = files.look(name, self.handle, follows=False)
-        return seen is not None and stat.S_ISDIR(seen.st_mode)
+    def _is_copy(self, name: str, owner: int) -> bool:
+        """Whether a folder, and no link, has a copy of a spool of this user."""
+        seen = [files.look(it, self.handle, follows=False) for it in (name, f"{name}/spool")]
+        return all(it is not None and stat.S_ISDIR(it.st_mode) for it in seen) and seen[1] is not None and seen[1].st_uid == owner
 
     def _remove(self, name: str) -> None:
         import shutil  # (takes long to load)
 
         shutil.rmtree(name, ignore_errors=True, dir_fd=self.handle)
+
+
+def _parts_of(name: str) -> tuple[str, str, int]:
+    """Of which site a copy is, when it was made, and its number in that second."""
+    match = _COPY.match(name)
+    return (match[1], match[2], int(match[3] or 1)) if match else ("", "", 0)
 
 
 class Backup:
@@ -142,6 +152,7 @@ class Backup:
         self._owner = owner_of(found)
         if self._owner.isdecimal() and os.geteuid() == 0:
             raise Failure(NOT_SET_UP, f"{found.folder} belongs to user {self._owner}, who has no account")
+        self.number = os.stat(found.folder).st_uid if os.geteuid() == 0 else os.geteuid()  # of the user whose files the copy has
         self.faults: list[str] = []  # of the spool in the copy
         self.left_out: list[str] = []  # what else isn't in it, and why
 

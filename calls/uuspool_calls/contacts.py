@@ -5,10 +5,12 @@ import os
 from collections.abc import Iterator
 
 from . import clock, files
+from .errors import LATER, Failure
 from .texts import is_name
 from .values import NamedTuple
 
 _END = ".json"
+_MOST = 1 << 16  # bytes of a file
 
 
 class Contact(NamedTuple):
@@ -37,8 +39,13 @@ class Contacts:
         self._folder = f"{folder}/calls"
 
     def find(self, neighbour: str) -> Contact:
-        """What is known of a neighbour."""
-        kept, usual = files.read_record(f"{self._folder}/{neighbour}{_END}"), Contact._field_defaults
+        """What is known of a neighbour. Failure if its file is larger than any that is written here."""
+        path = f"{self._folder}/{neighbour}{_END}"
+        text = files.read_bytes(path, _MOST + 1) or b""
+        if len(text) > _MOST:
+            what = f"{path} has more than {_MOST >> 10} KiB, so these commands did not write it"
+            raise Failure(LATER, f"{what}: remove it, and hold {neighbour} again if it was held")
+        kept, usual = files.record_in(text), Contact._field_defaults
         return Contact(**{name: value for name, value in kept.items() if name in usual and type(value) is type(usual[name])})
 
     def change(self, neighbour: str, **changes: int | str | float) -> None:

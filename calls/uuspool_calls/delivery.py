@@ -165,14 +165,14 @@ class Delivery:
             rest = [word.removeprefix(f"{hop}!") for word in words]
             if odd := next((word for word in rest if word.startswith("-")), None):
                 raise Refusal(f"{odd}, which is no user of {hop}, would be an option there")
-            with _given(job, self._folder) as content:
+            with envelope.handed_on(job, self._own, self._folder) as content:
                 self._hand_on(hop, job._replace(words=(name, *rest), content=content))
             return
         environment = {**self._environment, **job.environment()}
         path = f"{self._session.etc}/commands"
         limit = command.seconds(self._limit, path)
         first = partial(works.note, job.working) if job.working else None
-        program = Program(command.line(words), self._folder, environment, limit, _MOST_SHOWN, first=first)
+        program = Program(command.line(words), self._folder, environment, limit, _MOST_SHOWN, first=first, leaves_none=True)
         with _given(job, self._folder) as content:
             ended = self._session.processes.run(program, content, joined=True)
         if ended.status:

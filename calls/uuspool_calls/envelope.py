@@ -20,10 +20,23 @@ def signed(job: Delivered, folder: str) -> Iterator[int]:
     if end and _is_signed(first, job.sender):
         yield job.content
         return
-    sign = b">" if first.startswith(b"From ") else b""
+    with _behind(_line(job, job.user.removeprefix(f"{job.sender}!") or "uucp", job.sender), job, folder) as whole:
+        yield whole
+
+
+def handed_on(job: Delivered, own: str, folder: str) -> contextlib.AbstractContextManager[int]:
+    """The same for mail that goes on to the next site, to which it comes from this one. (The program writes the same line before
+    what it hands on itself.)"""
+    return _behind(_line(job, job.user, own), job, folder)
+
+
+@contextlib.contextmanager
+def _behind(line: bytes, job: Delivered, folder: str) -> Iterator[int]:
+    """The open file of a line, and then the mail."""
+    sign = b">" if os.pread(job.content, 5, 0) == b"From " else b""
     is_large = os.fstat(job.content).st_size > MOST_OF_A_JOB
     with files.nameless_file(folder) if is_large else files.memory_file(b"") as whole:
-        files.write_all(whole, _line(job) + sign)
+        files.write_all(whole, line + sign)
         files.copy_all(job.content, whole)
         os.lseek(whole, 0, os.SEEK_SET)
         yield whole
@@ -37,7 +50,6 @@ def _is_signed(first: bytes, neighbour: str) -> bool:
     return first.startswith(b"From ") and user != b"" and names_one and min(first) >= 32
 
 
-def _line(job: Delivered) -> bytes:
-    name = job.user.removeprefix(f"{job.sender}!") or "uucp"
+def _line(job: Delivered, user: str, site: str) -> bytes:
     date = time.strftime("%a %b %e %H:%M:%S %Y", time.gmtime(clock.seconds("UTC0", job.moment)))
-    return f"From {name} {date} remote from {job.sender}\n".encode(errors="surrogateescape")
+    return f"From {user} {date} remote from {site}\n".encode(errors="surrogateescape")

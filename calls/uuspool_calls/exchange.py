@@ -14,6 +14,7 @@ from .texts import one_line, plain
 _MOST_DOUBLINGS = 10
 _MOST_NUMBERS = 2048  # that jobs get anew in one call
 _NEVER_TAKEN = ("NoBundle", "OtherSender", "OtherSite", "NotSealed", "WrongKey")  # what the program calls such a text
+_MOST_DIGITS = 20  # of a number of jobs
 _MOST_WAITING = 5000  # jobs of a neighbour that wait here, above which no more are taken
 
 
@@ -153,7 +154,7 @@ class Neighbour:
     def _looks_for_room(self) -> str:
         """Why a neighbour whose jobs wait here in great number brings no more, until some are delivered or gone. (If few
         jobs waited in all after its last bundle, its own needn't be counted.)"""
-        known = files.read_bytes(self._waits)
+        known = files.read_bytes(self._waits, _MOST_DIGITS)
         if known is not None and not (known.isdigit() and int(known) < self.most_waiting) and self.room() <= 0:
             return f"{self.most_waiting} jobs of {self._name} wait at {self._site.own}, so it takes more later"
         files.touch_if_possible(self._waits)

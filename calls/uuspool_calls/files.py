@@ -8,7 +8,7 @@ from collections.abc import Callable, Iterator, Mapping
 
 from .values import Any, Self
 
-_MOST_OF_A_RECORD = 1 << 26  # bytes
+_MOST_OF_A_RECORD = 1 << 20  # bytes, which JSON may make twenty times as many in memory
 
 
 @contextlib.contextmanager
@@ -103,9 +103,24 @@ def read_bytes(path: str, most: int = -1) -> bytes | None:
     return None
 
 
-def read_record(path: str) -> dict[str, Any]:
-    """What a file of JSON has; nothing if it isn't there, or isn't such a file."""
-    if not (text := read_bytes(path, _MOST_OF_A_RECORD)):
+def read_end(path: str, most: int) -> bytes:
+    """So many bytes from the end of a file, or nothing if it can't be read, or isn't a file. A log with a hole is as large as
+    anybody likes."""
+    with contextlib.suppress(OSError), opened(path, os.O_RDONLY | os.O_NONBLOCK | os.O_NOCTTY) as handle:
+        seen = os.fstat(handle)
+        if stat.S_ISREG(seen.st_mode):
+            return os.pread(handle, most, max(0, seen.st_size - most))
+    return b""
+
+
+def read_record(path: str, most: int = _MOST_OF_A_RECORD) -> dict[str, Any]:
+    """What a file of JSON has; nothing if it isn't there, isn't such a file, or has more bytes."""
+    return record_in(read_bytes(path, most))
+
+
+def record_in(text: bytes | None) -> dict[str, Any]:
+    """What such a text has."""
+    if not text:
         return {}
     import json  # (takes long to load)
 

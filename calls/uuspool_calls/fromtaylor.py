@@ -171,6 +171,11 @@ class TakeOver:
                 f"From now on Taylor's sys file needs 'time any', and no success-wait, for {' '.join(held)}: the times here say when a call is due."
             )
 
+        if open_ones := [plan.system.name for plan in self._plans if plan.system.may_debug]:
+            self._session.print(
+                f"Taylor's sys file needs 'max-remote-debug none' for {' '.join(open_ones)}: without it a call turns Taylor's debugging on, and fills the disk."
+            )
+
     def tell_waiting(self, names: Sequence[str]) -> None:
         """Prints what waits in Taylor's spool, and how each job would be queued here."""
         taylor = Taylor(self._session, owner=self._owner or owner_of(find_from_anywhere(self._session)))

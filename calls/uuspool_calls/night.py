@@ -1,4 +1,5 @@
-"""uuspool-night: calls each neighbour that is due, and delivers what is for this site.
+"""uuspool-night: calls each neighbour that is due, and delivers what is for this site. Once a day it gives back
+the room that the spool's file no longer needs.
 
 So many calls are made at a time, so a neighbour that hangs delays no other. Only errors are printed; the log
 has the rest."""
@@ -10,10 +11,11 @@ from .contacts import is_fresh
 from .errors import USAGE, Failure, spool_needed
 from .processes import Child, Children, Program, named
 from .session import Session
-from .site import ROUND, Site, enter
+from .site import ROUND, VACUUM, Site, enter
 
 _USAGE = "usage: uuspool-night [-w] [-p MINUTES]"
 _MINUTE = 60  # seconds
+_DAY = 86_400
 _MOST_ROUNDS = 500  # that wait for calls that hang
 
 
@@ -75,6 +77,16 @@ class Night:
             self._call(calls, "-np", self._quiet(minutes, due))
             deliveries.wait()
         files.touch_if_possible(f"{self._site.folder}/{ROUND}")
+        self._vacuum()
+
+    def _vacuum(self) -> None:
+        """Once a day, gives back the room that the spool's file no longer needs. (The program knows if there is some.)"""
+        mark = f"{self._site.folder}/{VACUUM}"
+        if files.is_fresh(mark, _DAY):
+            return
+        files.touch_if_possible(mark)
+        with spool_needed("the spool's file cannot be made shorter"):
+            self._site.spool.ask_once("vacuum")
 
     def _call(self, calls: Children, option: str, neighbours: Sequence[str]) -> None:
         """Calls these neighbours. (Most rounds call nobody, so this is loaded late, and once for all calls.)"""
@@ -106,4 +118,8 @@ class Night:
         except carriers.NoCarrier:
             return False
         after = minutes if its is None else its
-        return after is not None and not is_fresh(self._site.contacts.find(neighbour).called, after)
+        try:
+            return after is not None and not is_fresh(self._site.contacts.find(neighbour).called, after)
+        except Failure as why:  # (The others are called.)
+            self._site.session.say(str(why))
+            return False

@@ -5,10 +5,10 @@ import select
 import signal
 import sys
 import time
-from collections.abc import Callable, Iterable, Iterator, Mapping, Sequence
+from collections.abc import Callable, Collection, Iterable, Iterator, Mapping, Sequence
 
 from .errors import LATER, Failure, Stopped
-from .files import closing, memory_file
+from .files import closing, memory_file, read_bytes
 from .values import NamedTuple
 
 _GRACE = 10  # seconds from TERM to KILL
@@ -18,6 +18,7 @@ _STOPS = (signal.SIGHUP, signal.SIGINT, signal.SIGTERM)
 _IGNORED = (signal.SIGPIPE, signal.SIGXFSZ)  # by Python, and by no program that it runs
 _NOT_FOUND, _NOT_EXECUTABLE = 127, 126
 _MOST_HANDLES = 65536  # whoever runs this may have left some open
+_ADOPTS = 36  # for the kernel: processes below this one whose parents end become its children
 _LOOK = 0.5  # seconds after which whoever watches a program looks again
 
 Streams = tuple[int, int, int]  # the open files that are a program's input, output and errors
@@ -63,18 +64,40 @@ class Child:
         with contextlib.suppress(ProcessLookupError):
             os.kill(self.pid, signal.SIGKILL)
 
-    def end_group(self) -> None:
-        """Ends the processes of its group, once it has ended by a signal itself. (Before it is waited for, nobody else gets its
-        number.)"""
-        ended = os.waitid(os.P_PID, self.pid, os.WEXITED | os.WNOWAIT)
-        if ended and ended.si_code != os.CLD_EXITED:
-            kill_group(self.pid)
-
 
 def kill_group(number: int) -> None:
     """Ends the processes of a group, if there are any."""
     with contextlib.suppress(ProcessLookupError, PermissionError):
         os.killpg(number, signal.SIGKILL)
+
+
+def _children() -> set[int]:
+    """The processes whose parent this is."""
+    with contextlib.suppress(ChildProcessError):
+        os.waitid(os.P_ALL, 0, os.WEXITED | os.WNOHANG | os.WNOWAIT)  # (raises that if there are none)
+        stats = ((int(name), read_bytes(f"/proc/{name}/stat") or b"") for name in os.listdir("/proc") if name.isdigit())
+        return {number for number, text in stats if text.rpartition(b") ")[2].split()[1:2] == [b"%d" % os.getpid()]}
+    return set()
+
+
+def _adopting() -> set[int]:
+    """From now on whatever this process begins stays below it, also in sessions of their own. The children that it has now."""
+    from . import kernel  # (which only deliveries need)
+
+    kernel.control(_ADOPTS, 1)
+    return _children()
+
+
+def _end_children(but: Collection[int]) -> None:
+    """Ends the children of this process, and those that become so when their parents end. (What became another user's can't be
+    ended, and who forks without end may be faster.)"""
+    ends = time.monotonic() + _MARGIN
+    while (left := _children().difference(but)) and time.monotonic() < ends:
+        for number in left:
+            with contextlib.suppress(ProcessLookupError, PermissionError, ChildProcessError):
+                os.kill(number, signal.SIGKILL)
+                os.waitpid(number, os.WNOHANG)  # (Nobody else gets its number before.)
+        time.sleep(0.01)
 
 
 def _end_with(work: Callable[[], int], mask: Iterable[int]) -> None:
@@ -133,6 +156,7 @@ class Program(NamedTuple):
     most: int = 1 << 30
     ends_beyond: bool = False
     first: Callable[[], None] | None = None  # what the new process does before it becomes the program
+    leaves_none: bool = False  # unless it ends well, all that it began ends with it, also in sessions of its own
 
     def line(self) -> list[str]:
         """The words that are executed. `timeout` ends the program even if this process was killed."""
@@ -248,19 +272,20 @@ class Processes:
         self.check()
         os.lseek(given, 0, os.SEEK_SET)
         pipes = [_Pipe(program.most) for _ in range(1 if joined else 2)]
+        others = _adopting() if program.leaves_none else set()
         try:
             child = program.start((given, pipes[0].end, pipes[-1].end), self._finishes and program.limit is None)
             for pipe in pipes:
                 pipe.begin()
             # (The program has this open file, and not one of its own, so what it reads moves the place in it.)
             too_much = self._read(child, program, pipes, given, watch)
-            if program.limit is not None:  # (`timeout`, which the program may have killed, began a group)
-                child.end_group()
             errors = b"" if joined else bytes(pipes[1].bytes)
             ended = Ended(child.wait(), bytes(pipes[0].bytes), errors, too_much, os.lseek(given, 0, os.SEEK_CUR))
         finally:
             for pipe in pipes:
                 pipe.close()
+        if ended.status and program.leaves_none:
+            _end_children(others)
         if ended.status:
             self.check()
         return ended

@@ -96,7 +96,8 @@ class Refuser:
         for copy in itertools.count(1):
             path = f"{first}.{copy}" if copy > 1 else first
             there = [it for it in (path, f"{path}{UNTOLD}") if os.path.lexists(it)]
-            if any((files.read_bytes(it) or b"").partition(b"\n")[2] == parcel.text for it in there):
+            most = len(parcel.text) + _MOST_OF_A_LINE
+            if any((files.read_bytes(it, most) or b"").partition(b"\n")[2] == parcel.text for it in there):
                 return
             if not there:
                 files.replace(f"{path}{UNTOLD}", f"{reason}\n".encode() + parcel.text)

@@ -4,7 +4,7 @@ import os
 from collections.abc import Sequence
 
 from . import files
-from .errors import NOT_SET_UP, Failure
+from .errors import LATER, NOT_SET_UP, Failure
 from .processes import Program
 from .session import Session
 from .texts import one_line
@@ -12,6 +12,7 @@ from .values import NamedTuple
 
 _KNOWN = {"spool", "zone", "offset", "name", "admins", "seals", "limit"}
 _MOST = 1 << 20  # bytes that are looked at
+_ENDS_WITHOUT = (2, 5, 126, 127)  # statuses: the settings are wrong, or can't be read, or the program can't be run
 
 
 class NoSite(Failure):
@@ -44,10 +45,15 @@ NOWHERE = Settings("", "", "", "", "", "UTC0")
 
 
 def find(session: Session, options: Sequence[str] = ()) -> Settings:
-    """The settings of the site on which this run works, or of one that options of the program name."""
+    """The settings of the site on which this run works, or of one that options of the program name. (If the program was
+    killed, as by a limit, nobody knows whether there is a site.)"""
     ended = session.processes.run(Program([session.program, *options, "site"], "", session.environment))
+    said = one_line(ended.errors)
+    if ended.status in _ENDS_WITHOUT:
+        raise NoSite(said or f"{session.program} ended with status {ended.status}", ended.status)
     if ended.status:
-        raise NoSite(one_line(ended.errors) or f"{session.program} ended with status {ended.status}", ended.status)
+        what = f"nobody knows which site this is, because `{session.program} site` ended with status {ended.status}"
+        raise Failure(LATER, f"{what}{': ' if said else ''}{said}: try again, without a limit (ulimit -a)")
     return read(ended.output.decode(errors="surrogateescape"))
 
 

@@ -7,16 +7,18 @@ of standard input. With `none` its bundles aren't sealed.
 For ssh it makes a key and keeps the host's, and prints the line to run at the neighbour. The keys of neighbours
 are in the account `uuspool`, which has the number of the spool's user, so that user's shell doesn't matter. root
 runs this, or the spool's user. For the latter it prints the line of a key instead of adding it."""
+import contextlib
 import os
 import pwd
 import re
+import stat
 from collections.abc import Sequence
 from functools import partial
 
 from . import carriers, files, fromtaylor, seals
 from .errors import LATER, NOT_SET_UP, USAGE, Failure
 from .processes import Ended, Program
-from .session import Session
+from .session import Session, acting_as, user_name
 from .site import find_from_anywhere, has_bytes, owner_of
 from .texts import is_name, lines_of, printable
 from .values import Any
@@ -26,6 +28,9 @@ _USAGE = (
     "NAME uucico | NAME taylor [--no-call] | NAME key KEY.. | NAME seal [- | none] | --from-taylor [-k] uucico|taylor [NAME..]"
 )
 _ACCOUNT = "uuspool"
+_KINDS = "(ssh|ecdsa|sk)-"
+_MOST_OF_A_KEY = 1 << 14  # bytes
+_READ = os.O_RDONLY | os.O_NOFOLLOW | os.O_NONBLOCK | os.O_NOCTTY | os.O_CLOEXEC
 
 
 def run(session: Session, words: Sequence[str]) -> int:
@@ -55,11 +60,16 @@ def run(session: Session, words: Sequence[str]) -> int:
 
 
 def _expect_key(words: Sequence[str]) -> None:
-    kind, key = [*words, "", ""][:2]
-    if not re.match("(ssh|ecdsa|sk)-", kind):
+    if not re.match(_KINDS, words[0] if words else ""):
         raise Failure(USAGE, f"a public key begins with its kind, such as ssh-ed25519: {printable(' '.join(words))}")
-    if not re.fullmatch("[a-z0-9@.-]+", kind) or not re.fullmatch("[A-Za-z0-9+/=]+", key):
+    if not _is_key(words):
         raise Failure(USAGE, f"this is no public key: {printable(' '.join(words))}")
+
+
+def _is_key(words: Sequence[str]) -> bool:
+    """Whether these begin with the kind of a public key, and the key."""
+    kind, key = [*words, "", ""][:2]
+    return bool(re.match(_KINDS, kind) and re.fullmatch("[a-z0-9@.-]+", kind) and re.fullmatch("[A-Za-z0-9+/=]+", key))
 
 
 class Setup:
@@ -189,10 +199,16 @@ class Setup:
             raise Failure(LATER, f"ssh-keygen makes no key {key}")
 
     def _public_key(self) -> list[str]:
-        """The public half of that key, as the owner may read it, who may have put a link there."""
-        read = self._session.run_as(self._owner, ["cat", f"{self._etc}/keys/{self._name}.pub"])
-        words = read.output.decode(errors="replace").split()[:2]
-        _expect_key(words)
+        """The public half of that key, as the owner may read it, who may have put a link or a pipe there, or a file without end."""
+        path = f"{self._etc}/keys/{self._name}.pub"
+        words: list[str] = []
+        with contextlib.suppress(OSError), acting_as(self._owner), files.opened(path, _READ) as handle:
+            seen = os.fstat(handle)
+            if stat.S_ISREG(seen.st_mode) and user_name(seen.st_uid) == self._owner and seen.st_size <= _MOST_OF_A_KEY:
+                words = os.pread(handle, _MOST_OF_A_KEY, 0).decode(errors="replace").split()[:2]
+        if not _is_key(words):
+            why = f"{path} is no public key in a file of {self._owner}"
+            raise Failure(LATER, f"{why}: move it and {path.removesuffix('.pub')} away, and run this line again, which makes a new key")
         return words
 
     def _give(self, path: str, owner: int, mode: int) -> None:

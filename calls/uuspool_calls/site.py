@@ -11,7 +11,9 @@ from .journal import Journal
 from .session import Session, user_name
 from .spool import Spool
 
+_MOST_OF_A_WORD = 1 << 12  # bytes
 ROUND = "deliver/round"  # the file whose time is that of the last round of a night
+VACUUM = "deliver/vacuum"  # the file whose time is when a night last gave back the room of the spool's file
 
 
 class Site:
@@ -30,7 +32,7 @@ class Site:
 
     def word(self) -> str:
         """What identifies this spool. A new one, which gives its numbers again, has another word."""
-        return (files.read_bytes(f"{self.settings.spool}-word") or b"").decode(errors="replace").strip()
+        return (files.read_bytes(f"{self.settings.spool}-word", _MOST_OF_A_WORD) or b"").decode(errors="replace").strip()
 
     def onward(self, neighbour: str) -> list[str]:
         """The systems for which mail from a neighbour is handed on."""

@@ -87,6 +87,12 @@ class System(NamedTuple):
         """Whether Taylor never holds a call of it back."""
         return [" ".join(words).lower() for words in self._meant(*_TIMES)] == ["time any"] and not self._meant("success-wait")
 
+    @property
+    def may_debug(self) -> bool:
+        """Whether a call of it turns Taylor's debugging on."""
+        logins, levels = ([words[1:] for words in self._meant(keyword)] for keyword in ("called-login", "max-remote-debug"))
+        return set(logins) != {("never",)} and set(levels) != {("none",)}
+
     def _meant(self, *keywords: str) -> Sequence[tuple[str, ...]]:
         """What the lines with these keywords mean here: its own, or else the defaults."""
         begin = next(at for at, line in enumerate(self.lines) if line.keyword == "system")

@@ -8,6 +8,7 @@ from .files import opened, read_bytes, write_all
 from .processes import kill_group
 
 _BEGUN = 19  # the place of the time behind the name of the process
+_MOST = 256  # bytes of a file that names one
 
 
 def note(path: str) -> None:
@@ -33,7 +34,7 @@ def end_left(path: str) -> None:
 def _named(path: str) -> tuple[int, bytes]:
     """The number of the process that a file names, and when that began; nothing if the file names none. (0 is this process's
     own group, and 1 everybody's.)"""
-    number, _, begun = (read_bytes(path) or b"").partition(b" ")
+    number, _, begun = (read_bytes(path, _MOST) or b"").partition(b" ")
     return (int(number), begun) if number.isdigit() and int(number) > 1 else (0, b"")
 
 

@@ -89,6 +89,8 @@ def _page(session: Session, given: argparse.Namespace) -> str:
         site = settings.find(session, options)
     except settings.NoSite as why:
         raise Failure(_WRONG if why.ended == _WRONG else _STREAMS, str(why).removeprefix("uuspool: ")) from None
+    except Failure as why:
+        raise Failure(_SPOOL, str(why)) from None
     if os.geteuid() == 0:
         owner_of(site)  # (which fails if somebody else's settings lead root to a site of root's)
     ask = _Batch(session, options).ask

@@ -1,10 +1,12 @@
 """What is beside a spool: its log, the locks of calls, and the jobs that were refused."""
 import os
+import re
 from collections import defaultdict
 from collections.abc import Iterable, Iterator, Sequence
 from contextlib import suppress
 from typing import NamedTuple
 
+from ..files import read_end
 from ..pieces import FILE, UNTOLD
 from ..refusals import Kept, newest_first
 from .times import HOUR, MINUTE
@@ -41,15 +43,14 @@ class Beside:
 
 def log_of(log: str, today: str) -> list[list[str]]:
     """The lines of this date in a log, or in the one before. At most the end of a long log is
-    read."""
+    read. (A power cut may leave a line that isn't whole.)"""
     lines: list[str] = []
     for name in log, f"{log}.1":
-        with suppress(OSError), open(name, "rb") as file:
-            file.seek(max(0, os.path.getsize(name) - _READ_LOG))
-            lines = file.read().decode("ascii", errors="replace").splitlines() + lines
+        lines = read_end(name, _READ_LOG).decode("ascii", errors="replace").splitlines() + lines
         if lines and not lines[0].startswith(today):
             break
-    return [line.split(" ") for line in lines if line.startswith(f"{today} ") and line.count(" ") >= 6]
+    whole = re.compile(rf"{today} \d\d:\d\d:\d\d (\S+ ){{4}}")
+    return [line.split(" ") for line in lines if whole.match(line)]
 
 
 def calls_of(lines: Iterable[Sequence[str]], own: str) -> list[Made]:

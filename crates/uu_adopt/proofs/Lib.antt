@@ -21,3 +21,5 @@ pub mod Formats
 pub mod Assembled
 pub mod Renewing
 pub mod Joined
+mod ReadContents
+mod Named

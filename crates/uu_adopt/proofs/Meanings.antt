@@ -14,7 +14,7 @@ use Rattle.uu_schema.specs.Earlier.{schema_of, second_schema, third_schema, IsEa
 use Rattle.uu_rows.proofs.Meanings.{at_places, by_places, is_first, head_names}
 use Rattle.uu_adopt.specs.Texts.{version_text, spool_text}
 use Rattle.uu_adopt.specs.Reading.{jobs_at, entries_at}
-use Rattle.uu_adopt.proofs.Texts.{heads_text, sizes_text, pieces_text, entries_text, system_rowids_text, line_rowids_text, range_rowids_text, piece_rowids_text, entry_rowids_text, wait_rowids_text, link_rowids_text, taken_rowids_text}
+use Rattle.uu_adopt.proofs.Texts.{heads_text, sizes_text, bodies_text, pieces_text, entries_text, system_rowids_text, line_rowids_text, range_rowids_text, piece_rowids_text, entry_rowids_text, wait_rowids_text, link_rowids_text, taken_rowids_text}
 
 -- ---- every row of a table
 
@@ -45,6 +45,10 @@ size_terms = col 1 0 ∷ op1 Length (col 1 2) ∷ []
 pub sizes_means : Means spool_schema sizes_text (ordered bodies.tree [] size_terms (by_places (0 ∷ []))) (codes "job" ∷ codes "length(bytes)" ∷ [])
 unfolding understood everything
 sizes_means = record { command = refl; plain = (refl, refl); listing = refl }
+
+pub bodies_means : Means spool_schema bodies_text (ordered bodies.tree [] (at_places (0 ∷ 2 ∷ [])) (by_places (0 ∷ []))) (codes "job" ∷ codes "bytes" ∷ [])
+unfolding understood everything
+bodies_means = record { command = refl; plain = (refl, refl); listing = refl }
 
 pub pieces_means : (v : Version) → IsEarlierVersion v → Means (schema_of v) pieces_text (ordered pieces.tree [] (at_places (1 ∷ 2 ∷ 3 ∷ [])) (by_places (1 ∷ 2 ∷ []))) (codes "job" ∷ codes "place" ∷ codes "bytes" ∷ [])
 unfolding understood everything
@@ -158,6 +162,10 @@ heads_ask = refl
 pub sizes_ask : IsQuery sizes_text
 unfolding everything
 sizes_ask = refl
+
+pub bodies_ask : IsQuery bodies_text
+unfolding everything
+bodies_ask = refl
 
 pub pieces_ask : IsQuery pieces_text
 unfolding everything

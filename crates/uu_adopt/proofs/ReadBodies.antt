@@ -1,12 +1,9 @@
 -- What the question on the sizes of the bodies says of their table, both ways. A body's job is its
 -- rowid.
-use Rattle.std.proofs.Common.{◌≡◌, ◌<◌, ℕ, pos, Bool, true, ◌&&◌, List, [], ◌∷◌, map, filter, length, refl, sym, ap, subst, ◌∙◌, arith, Less, Option, Some, None, Vec}
-use Rattle.std.specs.Prelude.{◌↔◌, ◌<ℤ◌, IsTrue, nat_lt, MatchOption}
+use Rattle.std.proofs.Common.{◌≡◌, ◌<◌, pos, true, List, [], ◌∷◌, map, filter, length, refl, sym, ap, subst, ◌∙◌, arith, Less, Option, Some, None, Vec}
 use Rattle.std.specs.declared.alloc.Global.{Global}
 use Rattle.std.specs.List.{AllByRecursion}
 use Rattle.std.specs.List.Sorted.{IsPermutation}
-use Rattle.std.proofs.lemmas.Bool.{and_parts, lt-ltb, ltb-true}
-use Rattle.std.proofs.lemmas.Int.{ints}
 use Rattle.std.proofs.lemmas.List.Sorted.{IsPermutation-sym, IsPermutation-map}
 use Rattle.uu_names.proofs.Basics.{int_cmp-pos, filter_all}
 use Rattle.sqlite.specs.declared.types.Value.TheVariants.{Int, Blob}
@@ -39,50 +36,11 @@ use Rattle.uu_rows.proofs.Meanings.{by_places}
 use Rattle.uu_rows.proofs.Comparing.{numbered}
 use Rattle.uu_rows.proofs.Typed.{typed_only}
 use Rattle.uu_rows.proofs.Back.{same_all, size_back, size_returns, number_back, text_back}
-use Rattle.uu_adopt.specs.declared.integer.Integer.{Integer}
 use Rattle.uu_adopt.proofs.Texts.{sizes_text}
-use Rattle.uu_adopt.specs.Reading.{id_cells, AreRowids, AreSizes, AreJobsRising, FindsSizes}
+use Rattle.uu_adopt.specs.Reading.{AreRowids, IsRead, FindsSizes}
 use Rattle.uu_adopt.proofs.Meanings.{size_terms, sizes_means}
-use Rattle.uu_adopt.proofs.Rowids.{id_shown, ids_apart}
+use Rattle.uu_adopt.proofs.Rowids.{ids_apart, keys_rise}
 use Rattle.uu_adopt.proofs.Sound.{HasBytes, body_rows_are}
-
--- ---- the test
-
-abbrev pub rise_from : ℕ → List BodySize → Bool
-rise_from last [] = true
-rise_from last (size ∷ sizes) = nat_lt last size.job && rise_from size.job sizes
-
-abbrev pub rises : List BodySize → Bool
-rises [] = true
-rises (size ∷ sizes) = rise_from size.job sizes
-
-over : (x y : ℕ) (sizes : List BodySize) → x < y → AllByRecursion (λ (b : BodySize). y < b.job) sizes → AllByRecursion (λ (b : BodySize). x < b.job) sizes
-over x y [] h all = tt
-over x y (size ∷ sizes) h all = (let first = all.0 in omega (arith, h, first), over x y sizes h all.1)
-
-risen_from : (last : ℕ) (sizes : List BodySize) → rise_from last sizes ≡ true → AllByRecursion (λ (b : BodySize). last < b.job) sizes × AreJobsRising sizes
-risen_from last [] h = (tt, tt)
-risen_from last (size ∷ sizes) h =
-    let parts = and_parts (nat_lt last size.job) (rise_from size.job sizes) h in
-    let first = ltb-true last size.job parts.0 in
-    let more = risen_from size.job sizes parts.1 in
-    ((first, over last size.job sizes first more.0), more)
-
-risen : (sizes : List BodySize) → rises sizes ≡ true → AreJobsRising sizes
-risen [] h = tt
-risen (size ∷ sizes) h = risen_from size.job sizes h
-
-does_rise_from : (last : ℕ) (sizes : List BodySize) → AllByRecursion (λ (b : BodySize). last < b.job) sizes → AreJobsRising sizes → rise_from last sizes ≡ true
-does_rise_from last [] h k = refl
-does_rise_from last (size ∷ sizes) h k = rw (lt-ltb last size.job h.0) (does_rise_from size.job sizes k.0 k.1)
-
-does_rise : (sizes : List BodySize) → AreJobsRising sizes → rises sizes ≡ true
-does_rise [] h = refl
-does_rise (size ∷ sizes) h = does_rise_from size.job sizes h.0 h.1
-
--- a test that computes whether they rise tells it
-pub as_rise : (b : Bool) (sizes : List BodySize) → b ≡ rises sizes → IsTrue b ↔ AreJobsRising sizes
-as_rise b sizes is = (λ yes. risen sizes (sym is ∙ yes), λ up. is ∙ does_rise sizes up)
 
 -- ---- what the question shows of a row
 
@@ -124,20 +82,6 @@ built (r ∷ rs) (x ∷ all) typed h =
 
 -- ---- the table
 
-abbrev id_of : BodySize → Integer
-id_of size = record { value = pos size.job }
-
-job_first : (xs : List BodySize) → map id_shown (map size_cells xs) ≡ map id_cells (map id_of xs)
-job_first [] = refl
-job_first (x ∷ xs) = ap (λ l. id_cells (id_of x) ∷ l) (job_first xs)
-
-ids_of : (rows : List Row) (all : List BodySize) → AreSizes rows all → AreRowids (map id_shown rows)
-ids_of rows all it = record {
-  ids = map id_of all;
-  rows_are = ap (map id_shown) it.rows_are ∙ job_first all;
-  rising = ascending-map (λ (a b : Integer). a.value <ℤ b.value) id_of all (ascending_weaker _ (λ (x y : BodySize). pos x.job <ℤ pos y.job) (λ x y h. omega (arith, ints, h)) all it.rising);
-}
-
 module _ (a b : db.State) (rows : List Row) (stands : Stands spool_schema a.now) (h : db.Shown sizes_text [] a b rows) where
   abbrev table : List Row
   table = a.now.trees bodies.tree
@@ -149,9 +93,6 @@ module _ (a b : db.State) (rows : List Row) (stands : Stands spool_schema a.now)
   moved =
       subst (λ l. IsPermutation l rows) (map_same _ size_shown shows_size table)
       (subst (λ l. IsPermutation (map (λ r. eval_all size_terms ([] ∷ r ∷ [])) l) rows) (sym (all_stay table)) (answer_moved bodies.tree [] size_terms (by_places (0 ∷ [])) a.now.trees [] rows refl answer))
-
-  ids_moved : IsPermutation (map id_shown table) (map id_shown rows)
-  ids_moved = subst (λ l. IsPermutation l (map id_shown rows)) (map-map id_shown size_shown table) (IsPermutation-map id_shown _ _ moved)
 
   only : (bs : List Body) → IsPermutation (map body_cells bs) (map (columns body_places) table) → IsAscending (λ x y. body_cmp x y ≡ Less) bs → rows ≡ map size_cells (map size_of bs)
   only bs held rise =
@@ -165,17 +106,19 @@ module _ (a b : db.State) (rows : List Row) (stands : Stands spool_schema a.now)
   job_less : (x y : Body) → body_cmp x y ≡ Less → x.job < y.job
   job_less x y h = grind (arith)
 
-  pub finds_sizes : (found : Option (Vec BodySize Global)) → MatchOption found ((all : List BodySize) → ¬ AreSizes rows all) (λ all. AreSizes rows all.items) → FindsSizes table found
+  pub finds_sizes : (found : Option (Vec BodySize Global)) → IsRead size_cells IsTypedSize rows rows found → FindsSizes table found
   finds_sizes None none = record {
     all = tt;
     only = λ bs good rise keyed.
-        none (map size_of bs) (record { rows_are = only bs keyed.same rise; readable = all_map IsTypedSize size_of bs good; rising = ascending-map (λ (x y : BodySize). x.job < y.job) size_of bs (ascending_weaker _ (λ (x y : Body). x.job < y.job) job_less bs rise) });
+        let is = only bs keyed.same rise in
+        let up = ascending-map (λ (x y : BodySize). x.job < y.job) size_of bs (ascending_weaker _ (λ (x y : Body). x.job < y.job) job_less bs rise) in
+        none (map size_of bs) (record { rows_are = is; readable = all_map IsTypedSize size_of bs good; rowids = subst AreRowids (sym is) (keys_rise size_cells (λ (x : BodySize). x.job) (λ x. refl) (map size_of bs) up) });
   }
   finds_sizes (Some all) it = record {
     all = (
         let back = pull_back size_shown _ _ (subst (IsPermutation (map size_shown table)) it.rows_are moved) table refl in
         let made = built back.0 all.items (all-permutation HasBytes table back.0 back.1 (body_rows_are a.now.trees stands.sound)) (sym back.2) in
-        let apart = ids_apart table (map id_shown rows) ids_moved (ids_of rows all.items it) in
+        let apart = ids_apart size_shown (λ r. refl) table rows moved it.rowids in
         (map body_in back.0, record { same = subst (λ l. IsPermutation l (map (columns body_places) table)) (sym made.rows) (IsPermutation-map (columns body_places) _ _ (IsPermutation-sym table back.0 back.1)); numbered = apart.0; once = apart.1 }, made.sizes, it.readable));
     only = λ bs good rise keyed. same_all size_cells size_back IsTypedSize (λ x g. size_returns x) all.items (map size_of bs) it.readable (all_map IsTypedSize size_of bs good) (sym it.rows_are ∙ only bs keyed.same rise);
   }

@@ -10,6 +10,9 @@ heads_text = codes "SELECT number, system, rank, user, kind, queued, first_word,
 abbrev pub sizes_text : List ℕ
 sizes_text = codes "SELECT job, length(bytes) FROM bodies ORDER BY job"
 
+abbrev pub bodies_text : List ℕ
+bodies_text = codes "SELECT job, bytes FROM bodies ORDER BY job"
+
 abbrev pub pieces_text : List ℕ
 pieces_text = codes "SELECT job, place, bytes FROM pieces ORDER BY job, place"
 

@@ -1,5 +1,5 @@
 -- From the rows that are read to whether they are those of a state, in the tables of this version.
-use Rattle.std.proofs.Common.{◌≡◌, Bool, true, false, None, Some, Vec, refl, sym, ap, subst, ◌∙◌, true≢false}
+use Rattle.std.proofs.Common.{◌≡◌, List, Bool, true, false, None, Some, Vec, refl, sym, ap, subst, ◌∙◌, true≢false}
 use Rattle.std.specs.Prelude.{◌↔◌, ℕ, Option, is_some, IsSomeAnd, ◌∷◌, []}
 use Rattle.std.specs.declared.alloc.Global.{Global}
 use Rattle.sqlite.specs.Tree.{Trees}
@@ -45,9 +45,8 @@ module _ (trees : Trees) where
   no_systems None none finds = λ s holds. finds.only (tables_of s).systems (systems_in_order s holds.good) holds.tables.systems
   no_systems (Some all) none finds = absurd (cc)
 
-  pub no_jobs : (found : Option (Vec JobHead Global)) → false ≡ is_some found → FindsJobs Fourth trees found → IsOfNone Fourth trees
-  no_jobs None none finds = λ s holds. finds.only (tables_of s).jobs (heads_in_order s holds.good) holds.tables.jobs
-  no_jobs (Some all) none finds = absurd (cc)
+  pub no_jobs : FindsJobs Fourth trees None → IsOfNone Fourth trees
+  no_jobs finds = λ s holds. finds.only (tables_of s).jobs (heads_in_order s holds.good) holds.tables.jobs
 
   pub no_bodies : (found : Option (Vec BodySize Global)) → false ≡ is_some found → FindsBodies trees found → IsOfNone Fourth trees
   no_bodies None none finds = λ s holds. finds.only (tables_of s).bodies (sizes_good s holds.good) (bodies_in_order s holds.good) holds.tables.bodies
@@ -71,7 +70,7 @@ pub there : {X : Type 0} (found : Option X) (Same : X → Type 0) (Finds : Optio
 there (Some x) Same Finds same finds = (x, same, finds)
 there None Same Finds same finds = absurd same
 
-module _ (trees : Trees) (all : AllRows) (found : FindsAllRows trees all) (rows : Rows) (are : AreRowsOf all rows) where
+module _ (trees : Trees) (all : AllRows) (found : FindsAllRows trees all) (heads : List JobHead) (read_jobs : Vec JobHead Global) (same_jobs : heads ≡ read_jobs.items) (jobs_found : FindsJobs Fourth trees (Some read_jobs)) (rows : Rows) (are : AreRowsOf all heads rows) where
   -- of each table what was read
   the_next : (next : ℕ) × (rows.next ≡ next) × FindsNext Fourth trees (Some next)
   the_next = there all.next (λ next. rows.next ≡ next) (FindsNext Fourth trees) are.next found.next
@@ -80,7 +79,7 @@ module _ (trees : Trees) (all : AllRows) (found : FindsAllRows trees all) (rows 
   the_systems = there all.systems (λ read. rows.systems.now ≡ read.items) (FindsSystems trees) are.systems found.systems
 
   the_jobs : (read : Vec JobHead Global) × (rows.jobs.now ≡ read.items) × FindsJobs Fourth trees (Some read)
-  the_jobs = there all.jobs (λ read. rows.jobs.now ≡ read.items) (FindsJobs Fourth trees) are.jobs found.jobs
+  the_jobs = (read_jobs, are.jobs ∙ same_jobs, jobs_found)
 
   the_bodies : (read : Vec BodySize Global) × (rows.bodies.now ≡ read.items) × FindsBodies trees (Some read)
   the_bodies = there all.bodies (λ read. rows.bodies.now ≡ read.items) (FindsBodies trees) are.bodies found.bodies

@@ -1,5 +1,6 @@
 -- Whether the rows of all tables are those of a state, of this version and of earlier ones.
-use Rattle.std.specs.Prelude.{◌≡◌, Bool, IsSomeAnd}
+use Rattle.std.specs.Prelude.{◌≡◌, Bool, IsSomeAnd, List}
+use Rattle.uu_core.specs.declared.job.JobHead.{JobHead}
 use Rattle.sqlite.specs.Tree.{Trees}
 use Rattle.uu_core.specs.State.{State}
 use Rattle.uu_check.specs.declared.spool.Rows.{Rows}
@@ -7,7 +8,7 @@ use Rattle.uu_check.specs.declared.earlier.EarlierRows.{EarlierRows}
 use Rattle.uu_schema.specs.declared.version.Version.{Version}
 use Rattle.uu_schema.specs.declared.version.Version.TheVariants.{Fourth}
 use Rattle.uu_schema.specs.Encoded.{HoldsStateAs}
-use Rattle.uu_adopt.specs.Reading.{FindsSystems, FindsBareSystems, FindsLines, FindsRanges, FindsJobs, FindsBodies, FindsPieces, FindsEntries, FindsNext, FindsWaits, FindsLinks, FindsTaken, Tells}
+use Rattle.uu_adopt.specs.Reading.{AnswersJobs, FindsSystems, FindsBareSystems, FindsLines, FindsRanges, FindsJobs, FindsBodies, FindsPieces, FindsEntries, FindsNext, FindsWaits, FindsLinks, FindsTaken, Tells}
 use Rattle.uu_adopt.specs.Adoption.{IsOfNone}
 use Rattle.uu_adopt.specs.declared.all_rows.AllRows.{AllRows}
 use Rattle.uu_adopt.specs.declared.all_earlier.AllEarlier.{AllEarlier}
@@ -18,17 +19,17 @@ use Rattle.uu_adopt.specs.declared.all_earlier.AllEarlier.{AllEarlier}
 pub record FindsAllRows (trees : Trees) (all : AllRows) : Type 0 where
   pub next : FindsNext Fourth trees all.next
   pub systems : FindsSystems trees all.systems
-  pub jobs : FindsJobs Fourth trees all.jobs
+  pub jobs : AnswersJobs Fourth trees all.jobs.items
   pub bodies : FindsBodies trees all.bodies
   pub entries : FindsEntries Fourth trees all.entries
   pub links : FindsLinks Fourth trees all.links
   pub taken : FindsTaken Fourth trees all.taken
 
--- every table's rows were found, and are these
-pub record AreRowsOf (all : AllRows) (rows : Rows) : Type 0 where
+-- the rows of every other table were found, and with these heads of the jobs they are these
+pub record AreRowsOf (all : AllRows) (heads : List JobHead) (rows : Rows) : Type 0 where
   pub next : IsSomeAnd all.next (λ next. rows.next ≡ next)
   pub systems : IsSomeAnd all.systems (λ found. rows.systems.now ≡ found.items)
-  pub jobs : IsSomeAnd all.jobs (λ found. rows.jobs.now ≡ found.items)
+  pub jobs : rows.jobs.now ≡ heads
   pub bodies : IsSomeAnd all.bodies (λ found. rows.bodies.now ≡ found.items)
   pub entries : IsSomeAnd all.entries (λ found. rows.entries.now ≡ found.items)
   pub links : IsSomeAnd all.links (λ found. rows.links.now ≡ found.items)

@@ -8,3 +8,5 @@ pub mod Adoption
 pub mod AllRows
 pub mod Assembly
 pub mod Renewal
+pub mod Contents
+pub mod Alone

@@ -8,7 +8,8 @@ use Rattle.std.specs.List.Sorted.{IsPermutation}
 use Rattle.sqlite.specs.declared.error.Error.{Error}
 use Rattle.sqlite.specs.declared.types.Value.TheVariants.{Int}
 use Rattle.sqlite.specs.Order.{Row}
-use Rattle.sqlite.specs.Tree.{Trees, IsAscending}
+use Rattle.sqlite.specs.Edit.{id_in}
+use Rattle.sqlite.specs.Tree.{Trees, IsAscending, rowid}
 use Rattle.sqlite.specs.State as db
 use Rattle.sqlite.specs.Held.{Held, state}
 use Rattle.sqlite.specs.Store.{Ghosts}
@@ -35,25 +36,17 @@ use Rattle.uu_schema.specs.Held.{system_key, job_key, body_key, entry_key, link_
 use Rattle.uu_schema.specs.HeldEarlier.{bare_key, line_key, range_key, piece_key, wait_key, line_places, range_places, piece_places, wait_places}
 use Rattle.uu_core.specs.declared.job.JobHead.{JobHead}
 use Rattle.uu_schema.specs.Cells.{system_cells, job_cells, body_cells, entry_cells, link_cells, taken_cells, bare_cells, line_cells, range_cells, wait_cells, piece_cells}
-use Rattle.uu_rows.specs.Readable.{IsSmall, IsTypedSystem, IsTypedHead, IsTypedSize, IsTypedEntry, IsTypedLink, IsTypedTaken, IsTypedBare, IsTypedLine, IsTypedRange, IsTypedWait, IsTypedPiece, size_cells}
+use Rattle.uu_rows.specs.Readable.{IsSmall, IsTypedSystem, IsTypedHead, IsTypedSize, IsTypedEntry, IsTypedLink, IsTypedTaken, IsTypedBare, IsTypedLine, IsTypedRange, IsTypedWait, IsTypedPiece}
 use Rattle.uu_tables.specs.Order.{system_cmp, head_cmp, body_cmp, entry_cmp, link_cmp, taken_cmp, bare_system_cmp, line_cmp, range_cmp, wait_cmp, piece_cmp}
 use Rattle.uu_schema.specs.Keyed.{Keyed, columns}
 use Rattle.uu_schema.specs.Earlier.{schema_of, old_systems, lines, ranges, old_jobs, pieces, old_entries, success_waits, old_links, old_taken}
-use Rattle.uu_adopt.specs.declared.integer.Integer.{Integer}
 
 -- ---- rowids that rise
 
-abbrev pub id_cells : Integer → Row
-id_cells id = Int id.value ∷ []
-
--- each is below those after it
-abbrev pub Rise : List Integer → Type 0
-Rise ids = IsAscending (λ a b. a.value <ℤ b.value) ids
-
+-- the first columns of the rows are whole numbers, each below those after it
 pub record AreRowids (rows : List Row) : Type 0 where
-  pub ids : List Integer
-  pub rows_are : rows ≡ map id_cells ids
-  pub rising : Rise ids
+  pub numbered : AreNumbered rows
+  pub rising : IsAscending (λ a b. id_in (rowid a) <ℤ id_in (rowid b)) rows
 
 -- ---- a table's rows as typed rows
 
@@ -90,7 +83,8 @@ pub record ReadsFrom {S T : Type 0} (g : Ghosts S) (v : Version) (IsAnswer : Tre
   pub idle : StaysIdle old new
   pub reads : Reads v IsAnswer (state g old) (state g new) r
 
--- what is read from the rows of two questions: all typed rows, and rowids that rise
+-- what is read from the rows of two questions: all typed rows, and rowids that rise. If the key is the
+-- rowid and the first column, one question gives both.
 pub record AreRead {X : Type 0} (cells : X → Row) (IsReadable : X → Type 0) (rows ids : List Row) (all : List X) : Type 0 where
   pub rows_are : rows ≡ map cells all
   pub readable : AllByRecursion IsReadable all
@@ -99,30 +93,11 @@ pub record AreRead {X : Type 0} (cells : X → Row) (IsReadable : X → Type 0) 
 abbrev pub IsRead : {X : Type 0} → (X → Row) → (X → Type 0) → List Row → List Row → Option (Vec X Global) → Type 0
 IsRead cells IsReadable rows ids found = MatchOption found ((all : List _) → ¬ AreRead cells IsReadable rows ids all) (λ all. AreRead cells IsReadable rows ids all.items)
 
--- each number is below those after it
-abbrev pub AreNumbersRising : List JobHead → Type 0
-AreNumbersRising = IsAscending (λ (a b : JobHead). a.number < b.number)
-
--- the rows are those of these heads, whose numbers rise
-pub record AreHeads (rows : List Row) (all : List JobHead) : Type 0 where
-  pub rows_are : rows ≡ map job_cells all
-  pub readable : AllByRecursion IsTypedHead all
-  pub rising : AreNumbersRising all
-
 -- the answer to the question on the one row of the table `spool`
 abbrev pub spool_cells : Version → ℕ → Row
 spool_cells v next = Int (pos 1) ∷ Int (pos (version_number v)) ∷ Int (pos next) ∷ []
 
 -- ---- bodies: the question gives the number of bytes of each, and no byte is read
-
-abbrev pub AreJobsRising : List BodySize → Type 0
-AreJobsRising = IsAscending (λ (a b : BodySize). a.job < b.job)
-
--- the rows are those of these sizes, and the numbers of the jobs rise
-pub record AreSizes (rows : List Row) (all : List BodySize) : Type 0 where
-  pub rows_are : rows ≡ map size_cells all
-  pub readable : AllByRecursion IsTypedSize all
-  pub rising : AreJobsRising all
 
 -- What is found is exactly the sizes of the table's bodies, whatever their bytes are.
 pub record FindsSizes (rows : List Row) (found : Option (Vec BodySize Global)) : Type 0 where
@@ -147,6 +122,10 @@ entries_at Fourth = entries.tree
 
 abbrev pub FindsJobs : Version → Trees → Option (Vec JobHead Global) → Type 0
 FindsJobs v trees found = FindsRows job_key job_cells job_places IsTypedHead head_cmp (trees (jobs_at v)) found
+
+-- what is read of the answer to the question on the jobs is the table's
+abbrev pub AnswersJobs : Version → Trees → List Row → Type 0
+AnswersJobs v trees rows = (found : Option (Vec JobHead Global)) → IsRead job_cells IsTypedHead rows rows found → FindsJobs v trees found
 
 abbrev pub FindsEntries : Version → Trees → Option (Vec EntryColumns Global) → Type 0
 FindsEntries v trees found = FindsRows entry_key entry_cells entry_places IsTypedEntry entry_cmp (trees (entries_at v)) found

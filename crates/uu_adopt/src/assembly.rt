@@ -3,10 +3,10 @@ ghost use Rattle.std.specs.Prelude.{◌≡◌, ◌≤◌, Bool, map, IfOk, lengt
 ghost use Rattle.std.specs.List.{prefix_len};
 ghost use Rattle.uu_adopt.specs.Assembly.{is_line_of, is_range_of, is_wait_of, is_range_of_line, own_rows, rows_behind, range_of, lines_from, wait_from, definition_from, system_from, systems_from};
 
-use std::alloc::{AllocError, Global};
-use uu_names::{Listed, Word};
+use std::alloc::Global;
+use uu_names::Listed;
 use uu_rows::RowFault;
-use uu_tables::{BareSystem, CallColumns, LineColumns, RangeColumns, SystemColumns, WaitColumns};
+use uu_tables::{BareSystem, LineColumns, RangeColumns, SystemColumns, WaitColumns};
 use uu_times::{Line, SystemDef, Windows};
 
 /// A row to which rows of another table belong.
@@ -135,28 +135,6 @@ fn definition_of(
     SystemDef::new(name, lines, system.max_retries, wait).ok_or(RowFault::Bad)
 }
 
-fn copied_reason(why: &Option<Word>) -> Result<Option<Word>, AllocError>
-    ensures { IfOk result (λ copy. copy ≡ why.now) }
-{
-    match why {
-        Some(word) => Ok(Some(word.clone()?)),
-        None => Ok(None),
-    }
-}
-
-pub(crate) fn copied_call(call: &CallColumns) -> Result<CallColumns, AllocError>
-    ensures { IfOk result (λ copy. copy ≡ call.now) }
-{
-    let why = copied_reason(&call.why)?;
-    Ok(CallColumns {
-        last: call.last,
-        failures: call.failures,
-        wait: call.wait,
-        outcome: call.outcome,
-        why,
-    })
-}
-
 fn system_of(
     alloc: Global,
     system: &BareSystem,
@@ -167,7 +145,7 @@ fn system_of(
     ensures { IfOk result (λ made. made ≡ system_from system.now lines.now ranges.now wait) }
 {
     let def = definition_of(alloc, system, lines, ranges, wait)?;
-    let call = copied_call(&system.call)?;
+    let call = system.call.copied()?;
     Ok(SystemColumns { def, call })
 }
 

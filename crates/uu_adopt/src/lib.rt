@@ -6,8 +6,10 @@
 mod adoption;
 mod all_earlier;
 mod all_rows;
+mod alone;
 mod assembly;
 mod bodies;
+mod contents;
 mod heads;
 mod inspection;
 mod integer;
@@ -20,3 +22,5 @@ mod tables;
 mod version;
 
 pub use adoption::adopt_database;
+pub use alone::is_alone;
+pub use contents::{Contents, read_contents};

@@ -1,13 +1,12 @@
 // Every row of each table, read when a database is inspected.
-ghost use Rattle.std.specs.Prelude.{◌≡◌, ◌↔◌, true, false, List, map, Ok, Err, IfOk, IfErr, IsTrue};
-ghost use Rattle.std.specs.List.{AllByRecursion};
+ghost use Rattle.std.specs.Prelude.{◌≡◌, ◌↔◌, List, Err, IfOk, IfErr, IsTrue};
 ghost use Rattle.sqlite.specs.declared.error.Error.TheVariants.{SqliteFailure};
 ghost use Rattle.sqlite.specs.declared.error.ErrorCode.TheVariants.{OutOfMemory};
 ghost use Rattle.uu_schema.specs.declared.version.Version.{Version};
 ghost use Rattle.uu_schema.specs.Earlier.{IsEarlierVersion};
-ghost use Rattle.uu_adopt.specs.Reading.{Rise, AreRowids, IsRead, HasWaits, HasLinks, FindsSystems, FindsBareSystems, FindsLines, FindsRanges, FindsEntries, FindsPieces, FindsWaits, FindsLinks, FindsTaken, ReadsFrom};
+ghost use Rattle.uu_adopt.specs.Reading.{AreRead, AreRowids, IsRead, HasWaits, HasLinks, FindsSystems, FindsBareSystems, FindsLines, FindsRanges, FindsEntries, FindsPieces, FindsWaits, FindsLinks, FindsTaken, ReadsFrom};
 
-use crate::integer::Integer;
+use crate::integer::integer_in;
 use sqlite::{Alter, Connection, Error, Row};
 use std::alloc::Global;
 use uu_rows::{
@@ -20,48 +19,47 @@ use uu_tables::{
     TakenColumns, WaitColumns,
 };
 
-// Whether each rowid is below the next.
-fn rises(ids: &[Integer]) -> bool
-    ensures { IsTrue result ↔ Rise ids.now }
+// Whether the first columns of the rows are whole numbers that rise, as rowids in their order do.
+pub(crate) fn are_rowids(rows: &[Row]) -> bool
+    ensures { IsTrue result ↔ AreRowids rows.now }
 {
-    let Some((first, rest)) = ids.split_first() else {
+    let Some((first, rest)) = rows.split_first() else {
         return true;
     };
-    let mut last = first.value;
-    for id in rest {
-        if last >= id.value {
+    let Some(mut last) = integer_in(first) else {
+        return false;
+    };
+    for row in rest {
+        let Some(id) = integer_in(row) else {
+            return false;
+        };
+        if last.value >= id.value {
             return false;
         }
-        last = id.value;
+        last = id;
     }
     true
 }
 
-// Whether the rows are rowids that rise.
-fn are_rowids(alloc: Global, rows: &[Row]) -> Result<bool, RowFault>
-    ensures yes { result ≡ Ok true → AreRowids rows.now }
-    ensures none { result ≡ Ok false → ¬ AreRowids rows.now }
-    ensures bad { result ≡ Err RowFault.Bad → ¬ AreRowids rows.now }
-{
-    let ids: Vec<Integer> = read_all(alloc, rows)?;
-    Ok(rises(&ids))
-}
-
 // The typed rows, if the rows are theirs and their rowids rise.
 fn typed<T: TypedRow>(alloc: Global, rows: &[Row], ids: &[Row]) -> Result<Vec<T>, RowFault>
-    ensures rows { IfOk result (λ all. rows.now ≡ map T.cells all.items) }
-    ensures readable { IfOk result (λ all. AllByRecursion T.IsReadable all.items) }
-    ensures ids { IfOk result (λ all. AreRowids ids.now) }
-    ensures bad { result ≡ Err RowFault.Bad → AreRowids ids.now → (all : List T) → AllByRecursion T.IsReadable all → rows.now ≡ map T.cells all → ⊥ }
+    ensures rows { IfOk result (λ all. AreRead T.cells T.IsReadable rows.now ids.now all.items) }
+    ensures bad { result ≡ Err RowFault.Bad → (all : List T) → ¬ AreRead T.cells T.IsReadable rows.now ids.now all }
 {
-    if !are_rowids(alloc, ids)? {
-        return Err(RowFault::Bad);
+    if are_rowids(ids) {
+        read_all(alloc, rows)
+    } else {
+        Err(RowFault::Bad)
     }
-    read_all(alloc, rows)
 }
 
-// The same. Out of memory is an error, and `None` means rows that aren't typed rows.
-fn found<T: TypedRow>(alloc: Global, rows: &[Row], ids: &[Row]) -> Result<Option<Vec<T>>, Error>
+/// The same. Out of memory is an error, and `None` means rows that aren't typed rows. If the key is
+/// the rowid, both are the same rows.
+pub(crate) fn found<T: TypedRow>(
+    alloc: Global,
+    rows: &[Row],
+    ids: &[Row],
+) -> Result<Option<Vec<T>>, Error>
     ensures read { IfOk result (IsRead T.cells T.IsReadable rows.now ids.now) }
     ensures memory { IfErr result (λ error. error ≡ SqliteFailure OutOfMemory) }
 {

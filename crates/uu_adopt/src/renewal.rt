@@ -8,7 +8,7 @@ ghost use Rattle.uu_tables.specs.Earlier.{earlier_tables_of};
 ghost use Rattle.uu_check.specs.OfState.{AreEarlierRowsOf};
 ghost use Rattle.uu_adopt.specs.Renewal.{AreRowsOf, add_system, add_job, add_body, add_entry, add_link, add_taken, each};
 
-use crate::assembly::{copied_call, systems_of};
+use crate::assembly::systems_of;
 use crate::joining::bodies_of;
 use std::alloc::{AllocError, Global};
 use uu_check::EarlierRows;
@@ -46,19 +46,6 @@ fn add_system<'a>(
     Ok(())
 }
 
-fn add_systems<'a>(
-    changes: &mut Vec<Change<'a>>,
-    systems: &'a [SystemColumns],
-) -> Result<(), AllocError>
-    ensures { OnOk result ((t : Tables) → applied changes.new.items t ≡ each add_system systems.now (applied changes.old.items t)) }
-{
-    for system in systems {
-        let call = copied_call(&system.call)?;
-        add_system(changes, &system.def, call)?;
-    }
-    Ok(())
-}
-
 // When a job was handed in, at a second of 32 bits as in every spool.
 fn second_of(job: &JobHead) -> Result<u32, RowFault>
     ensures { IfOk result (λ second. second ≡ job.now.queued) }
@@ -66,93 +53,103 @@ fn second_of(job: &JobHead) -> Result<u32, RowFault>
     u32::try_from(job.queued).map_err(|_| RowFault::Bad)
 }
 
-fn push_job<'a>(
-    changes: &mut Vec<Change<'a>>,
-    job: &'a JobHead,
-    queued: u32,
-) -> Result<(), AllocError>
-    ensures { OnOk result (queued ≡ job.now.queued → (t : Tables) → applied changes.new.items t ≡ add_job job.now (applied changes.old.items t)) }
-{
-    let columns = JobColumns {
-        system: &job.system,
-        grade: job.grade,
-        user: &job.user,
-        kind: &job.kind,
-        queued,
-        size: job.size,
-    };
-    changes.push(Change::AddJob {
-        number: job.number,
-        columns,
-    })?;
-    Ok(())
+// A row that changes make.
+trait Added<'a> {
+    ghost adds: { Self → Tables → Tables };
+
+    // Adds the changes that make it.
+    fn add_to(&'a self, changes: &mut Vec<Change<'a>>) -> Result<(), RowFault>
+        ensures { OnOk result ((t : Tables) → applied changes.new.items t ≡ adds self.now (applied changes.old.items t)) };
 }
 
-fn add_jobs<'a>(changes: &mut Vec<Change<'a>>, jobs: &'a [JobHead]) -> Result<(), RowFault>
-    ensures { OnOk result ((t : Tables) → applied changes.new.items t ≡ each add_job jobs.now (applied changes.old.items t)) }
-{
-    for job in jobs {
-        let queued = second_of(job)?;
-        push_job(changes, job, queued)?;
+impl<'a> Added<'a> for SystemColumns {
+    ghost adds = { add_system };
+
+    fn add_to(&'a self, changes: &mut Vec<Change<'a>>) -> Result<(), RowFault> {
+        let call = self.call.copied()?;
+        add_system(changes, &self.def, call)?;
+        Ok(())
     }
-    Ok(())
 }
 
-fn add_bodies<'a>(changes: &mut Vec<Change<'a>>, bodies: &'a [Body]) -> Result<(), AllocError>
-    ensures { OnOk result ((t : Tables) → applied changes.new.items t ≡ each add_body bodies.now (applied changes.old.items t)) }
-{
-    for body in bodies {
-        changes.push(Change::AddBody {
-            job: body.job,
-            bytes: body.bytes.as_slice(),
-        })?;
-    }
-    Ok(())
-}
+impl<'a> Added<'a> for JobHead {
+    ghost adds = { add_job };
 
-fn add_entries<'a>(
-    changes: &mut Vec<Change<'a>>,
-    entries: &'a [EntryColumns],
-) -> Result<(), AllocError>
-    ensures { OnOk result ((t : Tables) → applied changes.new.items t ≡ each add_entry entries.now (applied changes.old.items t)) }
-{
-    for entry in entries {
-        let host = entry.host.clone()?;
-        changes.push(Change::AddEntry {
-            host,
-            bytes: entry.bytes.as_slice(),
-        })?;
-    }
-    Ok(())
-}
-
-fn add_links<'a>(changes: &mut Vec<Change<'a>>, links: &'a [LinkColumns]) -> Result<(), AllocError>
-    ensures { OnOk result ((t : Tables) → applied changes.new.items t ≡ each add_link links.now (applied changes.old.items t)) }
-{
-    for link in links {
-        changes.push(Change::AddLink {
-            system: &link.system,
-            below: link.below,
-        })?;
-    }
-    Ok(())
-}
-
-fn add_all_taken<'a>(
-    changes: &mut Vec<Change<'a>>,
-    taken: &'a [TakenColumns],
-) -> Result<(), AllocError>
-    ensures { OnOk result ((t : Tables) → applied changes.new.items t ≡ each add_taken taken.now (applied changes.old.items t)) }
-{
-    for row in taken {
-        changes.push(Change::AddTaken {
-            system: &row.system,
-            taken: Taken {
-                number: row.taken.number,
-                mark: row.taken.mark,
-                job: row.taken.job,
+    fn add_to(&'a self, changes: &mut Vec<Change<'a>>) -> Result<(), RowFault> {
+        let queued = second_of(self)?;
+        changes.push(Change::AddJob {
+            number: self.number,
+            columns: JobColumns {
+                system: &self.system,
+                grade: self.grade,
+                user: &self.user,
+                kind: &self.kind,
+                queued,
+                size: self.size,
             },
         })?;
+        Ok(())
+    }
+}
+
+impl<'a> Added<'a> for Body {
+    ghost adds = { add_body };
+
+    fn add_to(&'a self, changes: &mut Vec<Change<'a>>) -> Result<(), RowFault> {
+        changes.push(Change::AddBody {
+            job: self.job,
+            bytes: self.bytes.as_slice(),
+        })?;
+        Ok(())
+    }
+}
+
+impl<'a> Added<'a> for EntryColumns {
+    ghost adds = { add_entry };
+
+    fn add_to(&'a self, changes: &mut Vec<Change<'a>>) -> Result<(), RowFault> {
+        let host = self.host.clone()?;
+        changes.push(Change::AddEntry {
+            host,
+            bytes: self.bytes.as_slice(),
+        })?;
+        Ok(())
+    }
+}
+
+impl<'a> Added<'a> for LinkColumns {
+    ghost adds = { add_link };
+
+    fn add_to(&'a self, changes: &mut Vec<Change<'a>>) -> Result<(), RowFault> {
+        changes.push(Change::AddLink {
+            system: &self.system,
+            below: self.below,
+        })?;
+        Ok(())
+    }
+}
+
+impl<'a> Added<'a> for TakenColumns {
+    ghost adds = { add_taken };
+
+    fn add_to(&'a self, changes: &mut Vec<Change<'a>>) -> Result<(), RowFault> {
+        changes.push(Change::AddTaken {
+            system: &self.system,
+            taken: Taken {
+                number: self.taken.number,
+                mark: self.taken.mark,
+                job: self.taken.job,
+            },
+        })?;
+        Ok(())
+    }
+}
+
+fn add_all<'a, R: Added<'a>>(changes: &mut Vec<Change<'a>>, rows: &'a [R]) -> Result<(), RowFault>
+    ensures { OnOk result ((t : Tables) → applied changes.new.items t ≡ each R.adds rows.now (applied changes.old.items t)) }
+{
+    for row in rows {
+        row.add_to(changes)?;
     }
     Ok(())
 }
@@ -162,12 +159,12 @@ pub(crate) fn changes_of<'a>(alloc: Global, rows: &NewRows<'a>) -> Result<Vec<Ch
     ensures { IfOk result (λ changes. (s : State) → IsWellFormed s → AreRowsOf rows.now (tables_of s) → applied changes.items (tables_of empty) ≡ tables_of s) }
 {
     let mut changes = Vec::new(alloc);
-    add_systems(&mut changes, rows.systems)?;
-    add_jobs(&mut changes, rows.jobs)?;
-    add_bodies(&mut changes, rows.bodies)?;
-    add_entries(&mut changes, rows.entries)?;
-    add_links(&mut changes, rows.links)?;
-    add_all_taken(&mut changes, rows.taken)?;
+    add_all(&mut changes, rows.systems)?;
+    add_all(&mut changes, rows.jobs)?;
+    add_all(&mut changes, rows.bodies)?;
+    add_all(&mut changes, rows.entries)?;
+    add_all(&mut changes, rows.links)?;
+    add_all(&mut changes, rows.taken)?;
     changes.push(Change::SetNext { next: rows.next })?;
     Ok(changes)
 }

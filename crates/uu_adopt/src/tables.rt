@@ -20,7 +20,7 @@ pub(crate) enum Found {
     Other,
 }
 
-const SYSTEMS: [&str; 7] = [
+pub(crate) const SYSTEMS: [&str; 7] = [
     "name",
     "definition",
     "last",
@@ -44,7 +44,7 @@ const LINES: [&str; 4] = ["system", "place", "rank", "retry"];
 
 const RANGES: [&str; 4] = ["system", "place", "low", "high"];
 
-const JOBS: [&str; 9] = [
+pub(crate) const JOBS: [&str; 9] = [
     "number",
     "system",
     "rank",
@@ -56,17 +56,17 @@ const JOBS: [&str; 9] = [
     "size",
 ];
 
-const BODIES: [&str; 2] = ["job", "bytes"];
+pub(crate) const BODIES: [&str; 2] = ["job", "bytes"];
 
 const PIECES: [&str; 3] = ["job", "place", "bytes"];
 
-const ENTRIES: [&str; 2] = ["host", "bytes"];
+pub(crate) const ENTRIES: [&str; 2] = ["host", "bytes"];
 
 const SUCCESS_WAITS: [&str; 2] = ["system", "wait"];
 
-const LINKS: [&str; 2] = ["system", "below"];
+pub(crate) const LINKS: [&str; 2] = ["system", "below"];
 
-const TAKEN: [&str; 4] = ["system", "number", "mark", "job"];
+pub(crate) const TAKEN: [&str; 4] = ["system", "number", "mark", "job"];
 
 fn table_of<'a>(schema: &'a Schema, name: &str) -> Option<&'a Table>
     ensures { option_copied result ≡ table_of schema.now name.now }

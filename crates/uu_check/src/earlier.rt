@@ -1,13 +1,14 @@
 // Whether all tables of an earlier version are those of a spool.
-ghost use Rattle.std.specs.Prelude.{◌≡◌, ◌↔◌, true, IfOk, nat_le, ◌&&◌};
-ghost use Rattle.std.specs.List.{list_all};
-ghost use Rattle.uu_core.specs.State.{numbers_end};
+ghost use Rattle.std.specs.Prelude.{◌≡◌, ◌↔◌, true, IfOk, is_some, nat_le, ◌&&◌};
+ghost use Rattle.std.specs.List.{list_all, list_any};
+ghost use Rattle.uu_core.specs.State.{numbers_end, same_text};
 ghost use Rattle.uu_tables.specs.Earlier.{EarlierTables};
 ghost use Rattle.uu_check.specs.OfState.{AreEarlierTables, AreEarlierRowsOf};
 ghost use Rattle.uu_check.specs.Tests.{is_below, is_known, is_earlier_spool, are_systems, are_jobs, are_links, system_before};
 ghost use Rattle.uu_check.specs.Walk.{rises};
 
 use crate::entries::are_entries;
+use crate::jobs::Head;
 use crate::links::are_links;
 use crate::walk::{rise, walk_owners};
 use std::alloc::{AllocError, Global};
@@ -18,30 +19,69 @@ use uu_tables::{
     WaitColumns,
 };
 
-pub(crate) fn are_below(next: u32, jobs: &[JobHead]) -> bool
-    ensures { result ≡ list_all (is_below next) jobs.now }
+pub(crate) fn are_below<H: Head>(next: u32, jobs: &[H]) -> bool
+    ensures { result ≡ list_all (λ job. is_below next (H.head job)) jobs.now }
 {
-    jobs.iter().all(|job| job.number < next)
+    for job in jobs {
+        if job.number() >= next {
+            return false;
+        }
+    }
+    true
 }
 
-fn is_known(systems: &[BareSystem], job: &JobHead) -> bool
-    requires { rises system_before systems.now ≡ true }
-    ensures { result ≡ is_known systems.now job.now }
+// A mark of a name, under which the place of its system is remembered.
+fn mark_of(name: &[u8]) -> u8 {
+    let mut mark = 0u8;
+    for byte in name {
+        mark = mark.wrapping_mul(31).wrapping_add(*byte);
+    }
+    mark
+}
+
+fn is_named(system: &BareSystem, name: &[u8]) -> bool
+    ensures { result ≡ same_text system.now.name name.now }
 {
-    match systems.binary_search_by(|system| system.name.cmp(&job.system)) {
-        Ok(_) => true,
-        Err(_) => false,
+    system.name.as_str().as_bytes() == name
+}
+
+fn is_at(systems: &[BareSystem], place: usize, name: &[u8]) -> bool
+    ensures { result ≡ true → list_any (λ system. same_text system.name name.now) systems.now ≡ true }
+{
+    if place >= systems.len() {
+        return false;
+    }
+    is_named(&systems[place], name)
+}
+
+// The place of the job's system. The one that is remembered is tried first.
+fn place_for<H: Head>(systems: &[BareSystem], remembered: usize, job: &H) -> Option<usize>
+    requires { rises system_before systems.now ≡ true }
+    ensures { is_some result ≡ is_known systems.now (H.head job.now) }
+{
+    let name = job.system();
+    if is_at(systems, remembered, name) {
+        return Some(remembered);
+    }
+    match systems.binary_search_by(|system| system.name.as_str().as_bytes().cmp(name)) {
+        Ok(place) => Some(place),
+        Err(_) => None,
     }
 }
 
-pub(crate) fn are_known(systems: &[BareSystem], jobs: &[JobHead]) -> bool
+/// Whether the systems of the jobs are there. Most jobs are for few systems, so where each was found
+/// last is remembered.
+pub(crate) fn are_known<H: Head>(systems: &[BareSystem], jobs: &[H]) -> bool
     requires { rises system_before systems.now ≡ true }
-    ensures { result ≡ list_all (is_known systems.now) jobs.now }
+    ensures { result ≡ list_all (λ job. is_known systems.now (H.head job)) jobs.now }
 {
+    let mut places = [0usize; 256];
     for job in jobs {
-        if !is_known(systems, job) {
+        let mark = usize::from(mark_of(job.system()));
+        let Some(place) = place_for(systems, places[mark], job) else {
             return false;
-        }
+        };
+        places[mark] = place;
     }
     true
 }

@@ -13,12 +13,10 @@ use crate::links::are_links;
 use crate::systems::is_call;
 use crate::walk::{rise, walk_owners};
 use std::alloc::{AllocError, Global};
-use uu_core::JobHead;
 use uu_core::limits::NUMBERS_END;
-use uu_names::Word;
 use uu_names::laws::{grade_is_sound, name_is_sound};
 use uu_tables::{
-    BareSystem, BodySize, CallColumns, EntryColumns, LinkColumns, SystemColumns, TakenColumns,
+    BareSystem, BodySize, EntryColumns, HeadColumns, LinkColumns, SystemColumns, TakenColumns,
 };
 use uu_times::laws::windows_are_sound;
 use uu_times::{Line, SystemDef};
@@ -31,7 +29,7 @@ pub struct Rows<'a> {
     /// The systems.
     pub systems: &'a [SystemColumns],
     /// The jobs.
-    pub jobs: &'a [JobHead],
+    pub jobs: &'a [HeadColumns<'a>],
     /// How many bytes they have.
     pub bodies: &'a [BodySize],
     /// The map entries.
@@ -66,33 +64,11 @@ fn definitions_are_sound(systems: &[SystemColumns])
     }
 }
 
-fn copied_reason(why: &Option<Word>) -> Result<Option<Word>, AllocError>
-    ensures { IfOk result (λ copy. copy ≡ why.now) }
-{
-    match why {
-        Some(word) => Ok(Some(word.clone()?)),
-        None => Ok(None),
-    }
-}
-
-fn copied_call(call: &CallColumns) -> Result<CallColumns, AllocError>
-    ensures { IfOk result (λ copy. copy ≡ call.now) }
-{
-    let why = copied_reason(&call.why)?;
-    Ok(CallColumns {
-        last: call.last,
-        failures: call.failures,
-        wait: call.wait,
-        outcome: call.outcome,
-        why,
-    })
-}
-
 fn bare_of(system: &SystemColumns) -> Result<BareSystem, AllocError>
     ensures { IfOk result (λ bare. bare ≡ bare_of system.now) }
 {
     let name = system.def.name.clone()?;
-    let call = copied_call(&system.call)?;
+    let call = system.call.copied()?;
     Ok(BareSystem {
         name,
         max_retries: system.def.max_retries,
@@ -131,7 +107,12 @@ fn are_called(systems: &[BareSystem]) -> bool
     rise(systems) && are_calls(systems)
 }
 
-fn have_bodies(next: u32, systems: &[BareSystem], jobs: &[JobHead], bodies: &[BodySize]) -> bool
+fn have_bodies(
+    next: u32,
+    systems: &[BareSystem],
+    jobs: &[HeadColumns<'_>],
+    bodies: &[BodySize],
+) -> bool
     requires { rises system_before systems.now ≡ true }
     ensures { result ≡ have_bodies next systems.now jobs.now bodies.now }
 {

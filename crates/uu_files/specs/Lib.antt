@@ -1,3 +1,3 @@
-pub mod Dirty
+pub mod Disk
 pub mod Room
 pub mod Settled

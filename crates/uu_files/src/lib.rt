@@ -2,12 +2,11 @@
 //! page beyond a limit, and the database in them is opened with a pool as large as they need.
 #![tactic(auto)]
 
-mod dirty;
-mod limited;
+mod disk;
+mod log_frames;
 mod opening;
 mod room;
 
-pub use dirty::SyncWhenDirty;
-pub use limited::Limited;
+pub use disk::SpoolDisk;
 pub use opening::{SpoolFile, open_database};
 pub use room::Room;

@@ -7,11 +7,12 @@ ghost use Rattle.sqlite.specs.State.{HasCleanDisk};
 ghost use Rattle.sqlite_std_file.specs.File.{IsFresh, file_is_usable};
 ghost use Rattle.sqlite_wal.specs.Files.{image_at};
 ghost use Rattle.sqlite_wal.specs.Recovery.{Image};
+ghost use Rattle.uu_files.specs.Disk.{most_of};
+ghost use Rattle.uu_files.specs.Room.{IsLimit};
 ghost use Rattle.uu_files.specs.Settled.{AreSettled, pool_pages};
 
-use crate::dirty::SyncWhenDirty;
-use crate::limited::Limited;
-use crate::room::{PAGE, Room, most_pages};
+use crate::disk::SpoolDisk;
+use crate::room::{PAGE, Room, most_beside};
 use sqlite::{Connection, Error, ErrorCode, FileFrom, FileStore, Files, Leftover, Options, Start};
 use sqlite_disk::Disk;
 use sqlite_std_file::OpenError;
@@ -21,7 +22,7 @@ use std::io::ErrorKind;
 
 /// A file of a spool: it had the contents that `T` stands for, is synced only if it is dirty, and if
 /// it is the log takes no page beyond the limit.
-pub type SpoolFile<T> = SyncWhenDirty<Limited<FileFrom<T>>>;
+pub type SpoolFile<T> = SpoolDisk<FileFrom<T>>;
 
 /// The pages of a pool beyond those of the files, for what is written.
 const SPARE_PAGES: usize = 32;
@@ -76,13 +77,14 @@ fn open_pair<T: Start>(
     ensures log { IfOk result (λ files. IsTrue (⟦<SpoolFile<T> as Disk>⟧.is_usable files.log)) }
     ensures db { IfOk result (λ files. IsTrue (⟦<SpoolFile<T> as Disk>⟧.is_usable files.db)) }
     ensures settled { IfOk result (AreSettled ⟦<SpoolFile<T> as Disk>⟧ (image_at T.Start)) }
+    ensures limit { IfOk result (λ files. IsTrue (⟦<SpoolFile<T> as Disk>⟧.is_clean files.db) → IsLimit room (image_at T.Start).db (most_of files.log)) }
     ensures kind { IfErr result (λ e. (e ≡ Error.SqliteFailure ErrorCode.CannotOpen) ⊎ ((e ≡ Error.SqliteFailure ErrorCode.OutOfMemory) ⊎ (e ≡ Error.SqliteFailure ErrorCode.DatabaseBusy))) }
 {
     if path == ":memory:" || path.starts_with("file:") {
         return Err(CANNOT_OPEN);
     }
     match sqlite_std_file::open(rt, path, start) {
-        Ok(files) => Ok(behind(files, room)),
+        Ok(files) => behind(files, room),
         Err(OpenError::OutOfMemory) => Err(NO_MEMORY),
         Err(OpenError::Busy) => Err(Error::SqliteFailure(ErrorCode::DatabaseBusy)),
         Err(OpenError::Io(error)) if error.kind() == ErrorKind::OutOfMemory => Err(NO_MEMORY),
@@ -90,24 +92,27 @@ fn open_pair<T: Start>(
     }
 }
 
-// Wraps files that were just settled, so that they are synced only if they are dirty, and the log
-// takes no page beyond the limit. If the length of the database file can't be read, it counts as
-// short.
-fn behind<T: Start>(files: Files<FileFrom<T>>, room: Room) -> Files<SpoolFile<T>>
+// Puts the disks of a spool before files that were just settled. If it can't be read how long the
+// database file is, or of which size its pages are, nothing is opened.
+fn behind<T: Start>(files: Files<FileFrom<T>>, room: Room) -> Result<Files<SpoolFile<T>>, Error>
     requires log { IsFresh true files.log }
     requires db { IsFresh false files.db }
     requires log_usable { IsTrue (file_is_usable T.Start files.log) }
     requires db_usable { IsTrue (file_is_usable T.Start files.db) }
-    ensures log { IsTrue (⟦<SpoolFile<T> as Disk>⟧.is_usable result.log) }
-    ensures db { IsTrue (⟦<SpoolFile<T> as Disk>⟧.is_usable result.db) }
-    ensures settled { AreSettled ⟦<SpoolFile<T> as Disk>⟧ (image_at T.Start) result }
+    ensures log { IfOk result (λ new. IsTrue (⟦<SpoolFile<T> as Disk>⟧.is_usable new.log)) }
+    ensures db { IfOk result (λ new. IsTrue (⟦<SpoolFile<T> as Disk>⟧.is_usable new.db)) }
+    ensures settled { IfOk result (AreSettled ⟦<SpoolFile<T> as Disk>⟧ (image_at T.Start)) }
+    ensures limit { IfOk result (λ new. IsTrue (⟦<SpoolFile<T> as Disk>⟧.is_clean new.db) → IsLimit room (image_at T.Start).db (most_of new.log)) }
+    ensures kind { IfErr result (λ e. e ≡ Error.SqliteFailure ErrorCode.CannotOpen) }
 {
     let mut files = files;
-    let length = files.db.len().unwrap_or(0);
-    Files {
-        log: SyncWhenDirty::synced(Limited::new(files.log, most_pages(room, length))),
-        db: SyncWhenDirty::synced(Limited::new(files.db, None)),
-    }
+    let Ok(most) = most_beside(room, &mut files.db) else {
+        return Err(CANNOT_OPEN);
+    };
+    Ok(Files {
+        log: SpoolDisk::synced(files.log, most),
+        db: SpoolDisk::synced(files.db, None),
+    })
 }
 
 // Opens the database in files, with a pool as large as they need and the limit allows.

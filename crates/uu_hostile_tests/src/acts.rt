@@ -9,7 +9,7 @@ use std::alloc::Global;
 use std::fmt::Debug;
 use std::process::Abort;
 use uu_core::Filter;
-use uu_store::{RunEnd, Spool, StoreFault};
+use uu_store::{Contents, RunEnd, Spool, StoreFault};
 use uuspool::{Clock, Fault, batch, serve};
 
 /// What a spool is given or asked.
@@ -22,6 +22,8 @@ pub(crate) enum Act {
     Jobs,
     Job(u32),
     Systems,
+    /// Everything that the spool keeps, to be copied: about how much room it takes.
+    Contents,
     Due(u64),
     Entry(&'static str),
     Taken(&'static str),
@@ -312,6 +314,7 @@ pub(crate) fn perform<S: Alter>(
         Act::Jobs
         | Act::Job(_)
         | Act::Systems
+        | Act::Contents
         | Act::Due(_)
         | Act::Entry(_)
         | Act::Taken(_)
@@ -366,8 +369,17 @@ fn ask_all<S: Alter>(
     match question {
         Act::Jobs => answer_of(rt, alloc, spool.jobs(alloc, &Filter::all())),
         Act::Systems => answer_of(rt, alloc, spool.systems(alloc)),
+        Act::Contents => answer_of(rt, alloc, room_of(spool.contents(alloc))),
         Act::Next => answer_of(rt, alloc, spool.next()),
         _ => panic!(rt; "no question"),
+    }
+}
+
+/// About how much room contents take.
+fn room_of(contents: Result<Contents, StoreFault>) -> Result<u64, StoreFault> {
+    match contents {
+        Ok(contents) => Ok(contents.room()),
+        Err(fault) => Err(fault),
     }
 }
 
@@ -433,6 +445,7 @@ const EACH: &[Act] = &[
     Act::Entry("duke"),
     Act::Taken("duke"),
     Act::Refusal(Order::Remove("duke")),
+    Act::Contents,
     Act::Next,
 ];
 

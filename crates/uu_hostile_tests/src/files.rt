@@ -3,7 +3,7 @@ use sqlite::Options;
 use sqlite_disk::{Crash, Disk, Files, Memory};
 use std::alloc::Global;
 use std::process::Abort;
-use uu_files::SyncWhenDirty;
+use uu_files::SpoolDisk;
 
 /// All pages stay in memory.
 pub(crate) const MANY_PAGES: Options = Options {
@@ -57,13 +57,13 @@ pub(crate) struct Left {
     pub(crate) written: Contents,
 }
 
-pub(crate) type MemoryFiles = Files<SyncWhenDirty<Memory>>;
+pub(crate) type MemoryFiles = Files<SpoolDisk<Memory>>;
 
-fn file(rt: &impl Abort, alloc: Global, bytes: &[u8]) -> SyncWhenDirty<Memory> {
+fn file(rt: &impl Abort, alloc: Global, bytes: &[u8]) -> SpoolDisk<Memory> {
     let mut file = Memory::new(alloc);
     assert!(rt; file.write_at(0, bytes).is_ok(), "memory");
     assert!(rt; file.sync().is_ok(), "memory");
-    SyncWhenDirty::new(file)
+    SpoolDisk::new(file)
 }
 
 pub(crate) fn files_of(rt: &impl Abort, alloc: Global, contents: &Contents) -> MemoryFiles {
@@ -73,7 +73,7 @@ pub(crate) fn files_of(rt: &impl Abort, alloc: Global, contents: &Contents) -> M
     }
 }
 
-fn bytes_of(rt: &impl Abort, alloc: Global, file: &SyncWhenDirty<Memory>) -> Vec<u8> {
+fn bytes_of(rt: &impl Abort, alloc: Global, file: &SpoolDisk<Memory>) -> Vec<u8> {
     file.inner().bytes().to_vec(alloc).expect(rt, "memory")
 }
 

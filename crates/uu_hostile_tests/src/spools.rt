@@ -241,6 +241,7 @@ const CALLS: &[Case] = &[
     ("Spool::job", FULL, Act::Job(1), &[]),
     ("Spool::job (none)", FULL, Act::Job(9), &[]),
     ("Spool::systems", FULL, Act::Systems, &[]),
+    ("Spool::contents", FULL, Act::Contents, &[]),
     ("Spool::due", FOUR_JOBS, Act::Due(SUNDAY), &[]),
     ("Spool::entry", FULL, Act::Entry("unc"), &[]),
     ("Spool::entry (none)", FULL, Act::Entry("duke"), &[]),

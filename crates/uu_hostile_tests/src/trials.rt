@@ -85,7 +85,13 @@ fn answered_again<S: Alter>(
 fn is_question(call: Act) -> bool {
     matches!(
         call,
-        Act::Jobs | Act::Job(_) | Act::Systems | Act::Due(_) | Act::Entry(_) | Act::Next
+        Act::Jobs
+            | Act::Job(_)
+            | Act::Systems
+            | Act::Contents
+            | Act::Due(_)
+            | Act::Entry(_)
+            | Act::Next
     )
 }
 

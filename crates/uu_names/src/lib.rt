@@ -20,5 +20,5 @@ pub use grade::Grade;
 pub use listed::Listed;
 pub use path::Path;
 pub use return_paths::return_path;
-pub use site_name::{SiteName, is_site_byte};
-pub use word::Word;
+pub use site_name::{SiteName, is_site_byte, is_site_name};
+pub use word::{Word, is_word};

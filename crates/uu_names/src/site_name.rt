@@ -40,7 +40,8 @@ pub fn is_site_byte(byte: u8) -> bool
     byte.is_ascii_alphanumeric() || matches!(byte, b'-' | b'_' | b'.')
 }
 
-pub(crate) fn is_site_name(bytes: &[u8]) -> bool
+/// Whether the bytes are a site name.
+pub fn is_site_name(bytes: &[u8]) -> bool
     ensures { result ≡ is_site_name bytes.now }
 {
     Form::SiteName.check(bytes).is_ok()

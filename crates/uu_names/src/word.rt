@@ -39,6 +39,13 @@ pub(crate) fn is_word_byte(byte: u8) -> bool
     byte.is_ascii_graphic()
 }
 
+/// Whether the bytes are a word.
+pub fn is_word(bytes: &[u8]) -> bool
+    ensures { result ≡ is_word bytes.now }
+{
+    Form::Word.check(bytes).is_ok()
+}
+
 impl Word {
     /// Reads a word. A text with any other byte is [`NameFault::BadWord`] at the first such byte;
     /// the empty text is, too, at 0. Otherwise a text of more than 255 bytes is

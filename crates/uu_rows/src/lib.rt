@@ -4,6 +4,7 @@
 #![tactic(auto)]
 
 mod asks;
+mod borrowed;
 mod definition;
 mod fault;
 mod reading;
@@ -13,6 +14,7 @@ mod values;
 pub use asks::{
     ask, ask_bare_systems, ask_lines, ask_links, ask_ranges, ask_systems, ask_taken, ask_waits,
 };
+pub use borrowed::read_heads;
 pub use fault::{RowFault, or_error, or_none, read_fault};
 pub use reading::{TypedRow, first_row, read_all, read_rows};
 pub use rows::has_width;

@@ -91,8 +91,8 @@ pub(crate) fn bytes_in(row: &Row, at: usize) -> Result<Vec<u8>, RowFault>
     }
 }
 
-// The bytes of the text in this column, borrowed.
-fn bytes_of_text_in<'a>(row: &'a Row, at: usize) -> Result<&'a [u8], RowFault>
+/// The bytes of the text in this column, borrowed.
+pub(crate) fn bytes_of_text_in<'a>(row: &'a Row, at: usize) -> Result<&'a [u8], RowFault>
     ensures value { IfOk result (λ bytes. column row.now at ≡ Text bytes.now) }
     ensures bad { (t : List ℕ) → NotIf result (column row.now at ≡ Text t) }
 {

@@ -1,5 +1,6 @@
 //! What the program asks of the operating system besides the two files of the spool: where its site
-//! is, whose turn it is, whether the spool is there, its word, its reserve, and its log.
+//! is, whose turn it is, whether the spool is there, its word, its reserve, its log, and a new file in
+//! the place of its database.
 #![tactic(auto)]
 
 mod fault;
@@ -8,6 +9,7 @@ mod folder;
 mod log;
 mod paths;
 mod presence;
+mod replacing;
 mod reserve;
 mod turn;
 mod word;
@@ -18,6 +20,7 @@ pub use folder::expect_own_folder;
 pub use log::append_log;
 pub use paths::{Places, path_in, places_in, places_of};
 pub use presence::{Found, expect_spool, find_spool, make_place};
+pub use replacing::{make_new, put_new, remove_new, spool_length};
 pub use reserve::{Share, give_up_reserve, make_reserve};
 pub use turn::{PATIENCE, Turn, patience, pause, take_turn};
 pub use word::{has_word, make_word, read_word};

@@ -13,6 +13,10 @@ pub struct Places {
     pub spool: String,
     /// The log of the database.
     pub wal: String,
+    /// A new file that is to get the place of the database.
+    pub new: String,
+    /// The log of the new file.
+    pub new_wal: String,
     /// A rollback journal, which only SQLite makes.
     pub journal: String,
     /// The file whose lock is the turn.
@@ -62,6 +66,8 @@ fn places_at(rt: &HostRuntime, spool: String) -> Result<Places, SiteFault> {
     let folder = String::from_str(rt.alloc(), folder_of(spool.as_str()))?;
     Ok(Places {
         wal: format!(in rt.alloc(); "{spool}-wal")?,
+        new: format!(in rt.alloc(); "{spool}-new")?,
+        new_wal: format!(in rt.alloc(); "{spool}-new-wal")?,
         journal: format!(in rt.alloc(); "{spool}-journal")?,
         lock: format!(in rt.alloc(); "{spool}-lock")?,
         word: format!(in rt.alloc(); "{spool}-word")?,

@@ -17,3 +17,5 @@ pub mod Refusing
 pub mod Opening
 pub mod FileRuns
 pub mod Closing
+mod Copies
+mod ShortLogs

@@ -1,5 +1,6 @@
 // Closing the files of a spool.
-ghost use Rattle.std.specs.Prelude.{◌≡◌, true, false, IsTrue, IfOk, IfErr, MatchResult};
+ghost use Rattle.std.specs.Prelude.{◌≡◌, ◌<◌, ℕ, List, length, true, false, IsTrue, IfOk, IfErr, MatchResult};
+ghost use Rattle.sqlite_wal.specs.Reads.{AreClean};
 ghost use Rattle.sqlite.specs.Files.{over_files};
 ghost use Rattle.sqlite.specs.View.{IsClean};
 ghost use Rattle.sqlite_store.specs.FileStore.{view};
@@ -37,5 +38,26 @@ impl<D: Disk + Drop> Spool<FileStore<D>> {
             },
             Err(failed) => Err(failed),
         }
+    }
+}
+
+/// The bytes of the shortest log that isn't passed over, with a head and that of a frame.
+const SHORTEST_LOG: usize = 56;
+
+/// Whether the log of these files is on the disk, and so short that it counts as none.
+pub fn has_short_log<D: Disk>(files: &mut Files<D>) -> bool
+    ensures short { IsTrue result → AreClean D.Disk files.new.log files.new.db → (log : List ℕ) → D.Disk.may_leave files.new.log log → length log < 56 }
+
+    // Nothing is written.
+    ensures database { files.new.db ≡ files.old.db }
+    ensures log { (log : List ℕ) → D.Disk.may_leave files.new.log log → D.Disk.may_leave files.old.log log }
+    ensures clean { AreClean D.Disk files.new.log files.new.db → AreClean D.Disk files.old.log files.old.db }
+{
+    if !files.log.may_be_used() || files.log.sync().is_err() {
+        return false;
+    }
+    match files.log.len() {
+        Ok(length) => length < SHORTEST_LOG,
+        Err(_) => false,
     }
 }

@@ -1,5 +1,5 @@
 //! What follows from the definitions.
-ghost use Rattle.std.specs.Prelude.{◌≡◌, ◌++◌, ℕ, List, length, map, take, Option, None, IsTrue, []};
+ghost use Rattle.std.specs.Prelude.{◌≡◌, ◌<◌, ◌++◌, ℕ, List, length, map, take, Option, None, IsTrue, []};
 ghost use Rattle.sqlite_disk.specs.declared.Files.{Files};
 ghost use Rattle.sqlite_store.specs.declared.store.FileStore.{FileStore};
 ghost use Rattle.sqlite.specs.declared.file.Leftover.{Leftover};
@@ -190,4 +190,10 @@ pub fn stretches_make_a_history<D: Disk>()
         → IsCleanLeft it → IsTakenAsMade before it → may_be_left it left → FilePassed before (not_started_for commands left) }
     ensures not_taken { (before left : Image) (commands : List Command) (it : FileStore D D.Disk) → LeavesAsKept before (remains.Store it)
         → IsTrue (view it).is_clean → (files_of it).may_leave left → FilePassed before (not_started_for commands left) }
+{}
+
+/// A log that is too short for a frame counts as none: files with it hold what they hold without a
+/// log.
+pub fn short_logs_count_as_none()
+    ensures { (log db : List ℕ) (s : State) → length log < 56 → ImageKeeps (record { log = []; db = db }) s → ImageKeeps (record { log = log; db = db }) s }
 {}

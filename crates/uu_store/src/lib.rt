@@ -11,10 +11,12 @@ mod run;
 mod spool;
 
 pub use adopt::AdoptFault;
+pub use close::has_short_log;
 pub use open::{FileSpool, open_spool};
 pub use remains::{OpenFault, Remains};
 pub use run::RunEnd;
 pub use spool::Spool;
+pub use uu_adopt::Contents;
 pub use uu_core::{
     By, CallState, Command, Due, Filter, JobHead, Kind, NewJob, Outcome, Refusal, Reply, SystemRow,
     Taken,

@@ -1,7 +1,7 @@
 // The spool over one connection.
 ghost use Rattle.std.specs.Prelude.{◌≡◌, false, IfErr};
 ghost use Rattle.sqlite.specs.Held.{state};
-ghost use Rattle.uu_core.specs.State.{State, IsWellFormed};
+ghost use Rattle.uu_core.specs.State.{State, IsWellFormed, empty};
 ghost use Rattle.uu_tables.specs.Tables.{tables_of};
 ghost use Rattle.uu_tables.specs.Changes.{applied};
 ghost use Rattle.uu_tables.specs.Plans.{AreFacts, IsFor};
@@ -13,6 +13,7 @@ use crate::limits::{bounded_heads, bounded_job, timed_systems};
 use sqlite::{Alter, Connection, Error};
 use std::alloc::Global;
 use std::mem::drop;
+use uu_adopt::{Contents, is_alone, read_contents};
 use uu_core::laws::{commands_are_sound, states_stay_well_formed, take_ins_are_sound};
 use uu_core::{Command, Due, Filter, JobHead, Refusal, Reply, SystemRow, TakeIn, Taken};
 use uu_names::{Listed, SiteName};
@@ -20,6 +21,7 @@ use uu_questions::{
     all_entries, all_systems, entry_of_host, facts_for, facts_for_take_in, job_of_number,
     list_jobs, next_number, refusal_of, systems_due, taken_from,
 };
+use uu_rows::RowFault;
 use uu_schema::{StoreFault, StoreKind, store_fault};
 use uu_statements::carry_out;
 use uu_tables::{Change, Facts, TakeInFacts, make_plan, plan_take_in};
@@ -39,10 +41,12 @@ pub struct Spool<S: Alter> {
 }
 
 impl<S: Alter> Spool<S> {
-    ghost use Rattle.std.specs.Prelude.{[], ◌∷◌, ◌+◌, IsTrue, IfOk, IfSome, Err, MatchResult, option_map, map, length};
+    ghost use Rattle.std.specs.Prelude.{[], ◌∷◌, ◌+◌, ⊤, IsTrue, IfOk, IfSome, Err, MatchResult, option_map, map, length};
     ghost use Rattle.std.specs.List.{AllByRecursion};
     ghost use Rattle.uu_core.specs.State.{head_of, job_at, entry_at, link_of};
     ghost use Rattle.uu_core.specs.Due.{AreDue};
+    ghost use Rattle.uu_adopt.specs.Alone.{is_alone};
+    ghost use Rattle.uu_adopt.specs.Contents.{AreContentsOf};
     ghost use Rattle.uu_questions.specs.Listing.{listed_jobs};
     ghost use Rattle.uu_questions.specs.Systems.{holding};
     ghost use Rattle.uu_store.specs.HandedOut.{IsBounded, IsTimed, job_shown};
@@ -112,6 +116,17 @@ impl<S: Alter> Spool<S> {
         ensures { result ≡ has_failed self.now }
     {
         self.failure.is_some()
+    }
+
+    /// Whether its database has nothing beside the tables of a spool: no other table, column, index,
+    /// view or trigger.
+    pub fn is_alone(&self) -> bool
+        ensures exact { result ≡ is_alone (disk self.now).now.schema }
+
+        // That of a spool that shows a state has nothing else.
+        ensures own { (s : State) → Shows self.now s → IsTrue result }
+    {
+        is_alone(self.conn.schema())
     }
 
     // After a fault of the store no more statements are given.
@@ -230,6 +245,34 @@ impl<S: Alter> Spool<S> {
         }
     }
 
+    /// Makes an empty spool show what these contents have, in one transaction whose commit is the
+    /// last call of the database.
+    ///
+    /// # Errors
+    /// `Memory`: it is still empty, and can be used. `Store`: the contents are kept whole or not at
+    /// all. From then on every command and question answers `Failed` and does nothing.
+    pub fn fill(&mut self, alloc: Global, contents: &Contents) -> Result<(), StoreFault>
+        ensures marked { MatchResult result (λ _. (has_failed self.old ≡ false) × (has_failed self.new ≡ false)) (IsFaultBetween (has_failed self.old) (has_failed self.new)) }
+        ensures noted { IfErr result (Notes (failure_of self.new)) }
+
+        // On a clean store it then shows the state whose contents they are. A stop at its end
+        // leaves that, or an empty spool.
+        ensures step { (s : State) → AreContentsOf s contents.now → IsStep empty s (λ _. ⊤) self.old self.new result }
+        ensures clean { StaysUnclean (disk self.old) (disk self.new) }
+
+        // A spool that failed is left as it was.
+        ensures failed { IsTrue (has_failed self.old) → (result ≡ Err StoreFault.Failed) × (self.new ≡ self.old) }
+    {
+        if self.is_failed() {
+            return Err(StoreFault::Failed);
+        }
+        match contents.changes(alloc) {
+            Ok(changes) => self.make_changes(alloc, (), changes.as_slice()),
+            Err(RowFault::Memory) => Err(StoreFault::Memory),
+            Err(RowFault::Bad) => Err(self.noted(StoreFault::Store(StoreKind::Database))),
+        }
+    }
+
     // Carries out a command with these facts: its changes are planned, and made in one transaction.
     fn carry_out(
         &mut self,
@@ -294,6 +337,20 @@ impl<S: Alter> Spool<S> {
             Ok(answer) => Ok(answer),
             Err(fault) => Err(self.noted(fault)),
         }
+    }
+
+    /// Everything that the spool keeps, to be copied into an empty one.
+    ///
+    /// # Errors
+    /// As [`Spool::jobs`].
+    pub fn contents(&mut self, alloc: Global) -> Result<Contents, StoreFault>
+        ensures question { IsQuestion AreContentsOf self.old self.new result }
+    {
+        if self.is_failed() {
+            return Err(StoreFault::Failed);
+        }
+        let contents = read_contents(alloc, &mut self.conn);
+        self.told(contents)
     }
 
     /// The heads of the jobs that match, by grade, the highest first, and within a grade by number.

@@ -8,7 +8,7 @@ use sqlite::{Alter, Connection, FileStore, Options, Row};
 use sqlite_disk::{Crash, Disk, Files, Fuse, Memory};
 use std::alloc::Global;
 use std::process::Abort;
-use uu_files::SyncWhenDirty;
+use uu_files::SpoolDisk;
 use uu_store::{Spool, StoreFault};
 
 /// Which file the fuse is on.
@@ -213,7 +213,7 @@ fn changed_in<S: Alter + Drop>(
     (conn.into_store(), rows)
 }
 
-type FusedFiles = Files<SyncWhenDirty<Fuse<Memory>>>;
+type FusedFiles = Files<SpoolDisk<Fuse<Memory>>>;
 
 fn fused_files(rt: &impl Abort, alloc: Global, contents: &Contents, stop: Stop) -> FusedFiles {
     let (log, db) = match stop.place {
@@ -221,8 +221,8 @@ fn fused_files(rt: &impl Abort, alloc: Global, contents: &Contents, stop: Stop) 
         Place::Database => (u64::MAX, stop.calls),
     };
     Files {
-        log: SyncWhenDirty::new(Fuse::new(synced_file(rt, alloc, &contents.log), log)),
-        db: SyncWhenDirty::new(Fuse::new(synced_file(rt, alloc, &contents.db), db)),
+        log: SpoolDisk::new(Fuse::new(synced_file(rt, alloc, &contents.log), log)),
+        db: SpoolDisk::new(Fuse::new(synced_file(rt, alloc, &contents.db), db)),
     }
 }
 

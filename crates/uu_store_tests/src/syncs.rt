@@ -2,11 +2,11 @@
 use sqlite_disk::{Disk, Fuse, Memory};
 use std::alloc::Global;
 use std::process::Abort;
-use uu_files::SyncWhenDirty;
+use uu_files::SpoolDisk;
 
 /// A file whose inner file answers so many calls.
-fn file_of(alloc: Global, calls: u64) -> SyncWhenDirty<Fuse<Memory>> {
-    SyncWhenDirty::new(Fuse::new(Memory::new(alloc), calls))
+fn file_of(alloc: Global, calls: u64) -> SpoolDisk<Fuse<Memory>> {
+    SpoolDisk::new(Fuse::new(Memory::new(alloc), calls))
 }
 
 /// Three of these seven calls reach the inner file, which answers three: a sync of a file that may

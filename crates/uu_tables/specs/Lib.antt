@@ -1,5 +1,6 @@
 pub mod Changes
 pub mod Earlier
+pub mod Heads
 pub mod Order
 pub mod Parts
 pub mod Plans

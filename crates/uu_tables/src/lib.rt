@@ -7,6 +7,7 @@ mod change;
 mod definition;
 mod earlier;
 mod facts;
+mod heads;
 mod plan;
 mod rows;
 
@@ -14,6 +15,7 @@ pub use change::{Change, JobColumns};
 pub use definition::definition_text;
 pub use earlier::{BareSystem, LineColumns, PIECE_BYTES, Piece, RangeColumns, WaitColumns};
 pub use facts::{Facts, OfferedFacts, TakeInFacts};
+pub use heads::{HeadColumns, KindColumns};
 pub use plan::{Plan, TakeInPlan, make_plan, plan_take_in};
 pub use rows::{
     Body, BodySize, CALL_FAILED, CALL_MADE, CallColumns, EXECUTE, EntryColumns, LinkColumns,

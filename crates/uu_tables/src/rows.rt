@@ -1,4 +1,7 @@
 // Rows of the tables, as their columns are read and written. A job's row is its `JobHead`.
+ghost use Rattle.std.specs.Prelude.{◌≡◌, IfOk};
+
+use std::alloc::AllocError;
 use uu_core::Taken;
 use uu_names::{Listed, SiteName, Word};
 use uu_times::SystemDef;
@@ -34,6 +37,31 @@ pub struct CallColumns {
     pub outcome: u32,
     /// Why it failed, if it did.
     pub why: Option<Word>,
+}
+
+fn copied_reason(why: &Option<Word>) -> Result<Option<Word>, AllocError>
+    ensures { IfOk result (λ copy. copy ≡ why.now) }
+{
+    match why {
+        Some(word) => Ok(Some(word.clone()?)),
+        None => Ok(None),
+    }
+}
+
+impl CallColumns {
+    /// The same columns.
+    pub fn copied(&self) -> Result<CallColumns, AllocError>
+        ensures { IfOk result (λ copy. copy ≡ self.now) }
+    {
+        let why = copied_reason(&self.why)?;
+        Ok(CallColumns {
+            last: self.last,
+            failures: self.failures,
+            wait: self.wait,
+            outcome: self.outcome,
+            why,
+        })
+    }
 }
 
 /// A row of the table `systems`.

@@ -1,2 +1,3 @@
 pub mod Sealing
 pub mod Stretch
+pub mod Copying

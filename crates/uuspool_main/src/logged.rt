@@ -127,19 +127,38 @@ pub(crate) fn log_init(
     settings: &Settings,
     places: &Places,
 ) -> Result<(), SiteFault> {
-    let change = init_change(rt.alloc())?;
+    log_done(rt, settings, places, "init")
+}
+
+/// Notes in the log that the spool has a new file.
+pub(crate) fn log_vacuum(
+    rt: &HostRuntime,
+    settings: &Settings,
+    places: &Places,
+) -> Result<(), SiteFault> {
+    log_done(rt, settings, places, "vacuum")
+}
+
+// Notes in the log that this was done, which no user asked for by name.
+fn log_done(
+    rt: &HostRuntime,
+    settings: &Settings,
+    places: &Places,
+    word: &str,
+) -> Result<(), SiteFault> {
+    let change = change_of_site(rt.alloc(), word)?;
     let moment = log_moment(rt.alloc(), &settings.zone, log_second(rt))?;
     let lines = ended_lines(rt.alloc(), moment.as_str(), &change, "done")?;
     append_log(rt, places.log.as_str(), &lines)
 }
 
-fn init_change(alloc: Global) -> Result<Change, AllocError> {
+fn change_of_site(alloc: Global, word: &str) -> Result<Change, AllocError> {
     Ok(Change {
         form: Form::One,
         system: String::from_str(alloc, "-")?,
         user: String::from_str(alloc, "uucp")?,
         jobs: Vec::new(alloc),
-        words: String::from_str(alloc, "init")?,
+        words: String::from_str(alloc, word)?,
     })
 }
 

@@ -3,6 +3,7 @@
 #![tactic(auto)]
 
 mod batching;
+mod copying;
 mod given;
 mod logged;
 mod making;
@@ -13,6 +14,7 @@ mod serving;
 mod stretch;
 mod telling;
 mod trouble;
+mod vacuuming;
 
 use crate::given::{settings_in, settings_of, words_of};
 use crate::making::make_spool;
@@ -21,6 +23,7 @@ use crate::sealing::{sealing_for, take_seals};
 use crate::serving::{serve_batch, serve_words};
 use crate::telling::{tell_name, tell_site};
 use crate::trouble::{Trouble, print_trouble};
+use crate::vacuuming::vacuum;
 use std::mem::drop;
 use std::process::ExitCode;
 use std::{fs, io};
@@ -48,6 +51,9 @@ fn run(rt: &HostRuntime) -> Result<u8, Trouble> {
     }
     if is_only(&words, "site") {
         return run_site(rt, config_before(&words));
+    }
+    if is_only(&words, "vacuum") {
+        return run_vacuum(rt, config_before(&words));
     }
     run_line(rt, &words)
 }
@@ -79,6 +85,12 @@ fn run_batch(rt: &HostRuntime, config: Option<&str>) -> Result<u8, Trouble> {
 fn run_init(rt: &HostRuntime, config: Option<&str>) -> Result<u8, Trouble> {
     let settings = enter_site(rt, config)?;
     make_spool(rt, &settings)
+}
+
+// Gives back the room that the spool's file no longer needs.
+fn run_vacuum(rt: &HostRuntime, config: Option<&str>) -> Result<u8, Trouble> {
+    let settings = enter_site(rt, config)?;
+    vacuum(rt, &settings)
 }
 
 // Prints what the site is. Who asks need not be able to enter its folder.

@@ -510,12 +510,13 @@ pub(crate) fn run_on_file(
     store_trouble(rt, places, StoreFault::Store(StoreKind::Busy))
 }
 
-fn is_busy(fault: StoreFault) -> bool {
+/// Whether another program has the database open.
+pub(crate) fn is_busy(fault: StoreFault) -> bool {
     matches!(fault, StoreFault::Store(StoreKind::Busy))
 }
 
-// A fault of the store, with the path of the spool.
-fn store_trouble<T: Drop>(
+/// A fault of the store, with the path of the spool.
+pub(crate) fn store_trouble<T: Drop>(
     rt: &HostRuntime,
     places: &Places,
     fault: StoreFault,

@@ -169,8 +169,8 @@ fn answer_to<S: Alter>(
     Answer { end, output }
 }
 
-// Lets the spool go, or closes its files.
-fn let_go<D: Disk + Drop>(spool: Spool<FileStore<D>>, closes: bool) -> Rest<D>
+/// Lets the spool go, or closes its files.
+pub(crate) fn let_go<D: Disk + Drop>(spool: Spool<FileStore<D>>, closes: bool) -> Rest<D>
     ensures { LetsGo spool result }
 {
     if !closes {

@@ -18,4 +18,4 @@ returns g c =
     let a = c.args.conn.now in
     let b = c.ask.new.conn in
     one_read g.S.Store Fourth a b c.ask.result c.found.result (answered _ _ c.in_ok-rows.was) c.ask.ensures.idle c.ask.ensures.shows c.ask.ensures.spares
-    (λ clean stands. IfOk-weaker c.found.result _ _ (λ found read. finds_sizes (state g.S.Store a) (state g.S.Store b) c.in_ok-rows.rows.items stands (c.in_ok-rows.ensures.shows.rows clean) found (rw c.deref.ensures.value at read)) c.found.ensures.read)
+    (λ clean stands. IfOk-weaker c.found.result _ _ (λ found read. finds_sizes (state g.S.Store a) (state g.S.Store b) c.in_ok-rows.rows.items stands (c.in_ok-rows.ensures.shows.rows clean) found (rw (c.deref.ensures.value, c.deref-2.ensures.value) at read)) c.found.ensures.read)

@@ -1,20 +1,10 @@
+use Rattle.std.proofs.Common.{refl}
 use Rattle.std.proofs.lemmas.Result.{IfOk-weaker}
-use Rattle.sqlite.specs.Held.{state}
-use Rattle.uu_rows.proofs.Showing.{answered}
-use Rattle.uu_adopt.proofs.TwoQuestions.{one_read, not_read}
-use Rattle.uu_adopt.proofs.ReadHeads.{finds_heads}
-use Rattle.uu_adopt.proofs.Meanings.{heads_ask}
+use Rattle.uu_adopt.proofs.Composing.{answers, stops}
 use Rattle.uu_adopt.proofs.heads.read_heads.Goals as goal
 
-pub ask-requires : goal.ask-requires
-ask-requires g c = heads_ask
-
 pub returns-in_err-rows : goal.returns-in_err-rows
-returns-in_err-rows g c v = not_read g.S.Store v c.args.conn.now c.ask.new.conn c.ask.result _ c.from_residual.ensures.0 c.ask.ensures.idle c.ask.ensures.spares
+returns-in_err-rows g c v = stops (c.ask_heads.ensures v) c.from_residual.ensures.0
 
 pub returns : goal.returns
-returns g c v =
-    let a = c.args.conn.now in
-    let b = c.ask.new.conn in
-    one_read g.S.Store v a b c.ask.result c.found.result (answered _ _ c.in_ok-rows.was) c.ask.ensures.idle c.ask.ensures.shows c.ask.ensures.spares
-    (λ clean stands. IfOk-weaker c.found.result _ _ (λ found read. finds_heads v (state g.S.Store a) (state g.S.Store b) c.in_ok-rows.rows.items stands (c.in_ok-rows.ensures.shows.rows clean) found (rw c.deref.ensures.value at read)) c.found.ensures.read)
+returns g c v = answers (c.in_ok-rows.ensures v) (λ ok. refl) (λ trees jobs. IfOk-weaker c.found.result _ _ (λ found read. jobs found (rw (c.deref.ensures.value, c.deref-2.ensures.value) at read)) c.found.ensures.read)

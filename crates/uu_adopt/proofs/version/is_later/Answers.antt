@@ -1,5 +1,5 @@
-use Rattle.std.proofs.Common.{Err, ap, ◌∙◌}
+use Rattle.std.proofs.Common.{refl}
 use Rattle.uu_adopt.proofs.version.is_later.Goals as goal
 
-pub returns-in-Err-Bad-clause-none : goal.returns-in-Err-Bad-clause-none
-returns-in-Err-Bad-clause-none c is shows = c.integer_in.ensures.bad shows.version (c.in-Err-Bad.is ∙ ap Err c.in-Err-Bad.field-0-is) shows.is
+pub returns-in-None-clause-none : goal.returns-in-None-clause-none
+returns-in-None-clause-none c none shows = c.in-None.ensures.none refl shows.version shows.is

@@ -1,4 +1,3 @@
-use Rattle.std.proofs.lemmas.Result.{IfOk-weaker}
 use Rattle.sqlite.specs.Held.{state}
 use Rattle.uu_rows.proofs.Showing.{answered}
 use Rattle.uu_adopt.proofs.TwoQuestions.{one_read, not_read}
@@ -17,8 +16,7 @@ returns-clause-reads g c v =
     let a = c.args.conn.now in
     let b = c.ask.new.conn in
     one_read g.S.Store v a b c.ask.result _ (answered _ _ c.in_ok-rows.was) c.ask.ensures.idle c.ask.ensures.shows c.ask.ensures.spares (λ clean stands.
-    let shown = c.in_ok-rows.ensures.shows.rows clean in
-    IfOk-weaker c.found_later.result _ _ (λ later found. (
-      λ yes. later_found v (state g.S.Store a) (state g.S.Store b) c.in_ok-rows.rows.items stands shown ((rw c.deref.ensures.value at found.0) yes),
-      λ no. later_not v (state g.S.Store a) (state g.S.Store b) c.in_ok-rows.rows.items stands shown ((rw c.deref.ensures.value at found.1) no),
-    )) c.found_later.ensures.found)
+    let shown = c.in_ok-rows.ensures.shows.rows clean in (
+      λ yes. later_found v (state g.S.Store a) (state g.S.Store b) c.in_ok-rows.rows.items stands shown ((rw c.deref.ensures.value at c.later_in.ensures.later) yes),
+      λ no. later_not v (state g.S.Store a) (state g.S.Store b) c.in_ok-rows.rows.items stands shown ((rw c.deref.ensures.value at c.later_in.ensures.none) no),
+    ))

@@ -1,8 +1,0 @@
-use Rattle.uu_rows.proofs.Told.{found_or_none, none_but_memory}
-use Rattle.uu_adopt.proofs.heads.found.Goals as goal
-
-pub returns-clause-read : goal.returns-clause-read
-returns-clause-read c = found_or_none c.typed.result c.or_none.result c.or_none.ensures _ _ c.typed.ensures.heads c.typed.ensures.bad
-
-pub returns-clause-memory : goal.returns-clause-memory
-returns-clause-memory c = none_but_memory c.typed.result c.or_none.result c.or_none.ensures

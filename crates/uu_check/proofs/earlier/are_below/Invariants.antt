@@ -1,0 +1,7 @@
+use Rattle.std.proofs.Common.{◌≡◌, true, take}
+use Rattle.std.specs.List.{list_all}
+use Rattle.uu_check.specs.Tests.{is_below}
+use Rattle.uu_check.proofs.earlier.are_below.Given as goal
+
+abbrev pub invariant-loop-job : goal.invariant-loop-job
+invariant-loop-job g l = list_all (λ job. is_below l.next (g.H.Head.head job)) (take l.job-index l.jobs) ≡ true

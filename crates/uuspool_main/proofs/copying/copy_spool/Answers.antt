@@ -1,0 +1,51 @@
+use Rattle.std.proofs.Common.{[], None, Some, arith, sym, ◌∙◌}
+use Rattle.sqlite_wal.specs.Files.{image_at}
+use Rattle.uu_store.specs.Exchanges.{exchange_of}
+use Rattle.uuspool_main.proofs.CopyLemmas.{copied}
+use Rattle.uuspool_main.proofs.StretchLemmas.{ends}
+use Rattle.uuspool_main.proofs.copying.copy_spool.Goals as goal
+
+-- the spool was asked and then let go or closed
+pub returns-in-Ok : goal.returns-in-Ok
+returns-in-Ok g c before started shows =
+    let begun = c.args.spool in
+    let ended = c.contents.new.self in
+    let asked = c.in-Ok.ensures.question in
+    let make = c.calls_make_a_stretch.ensures in
+    copied _ before (image_at g.N.Start) c.in-Ok.contents ended
+    (λ clean s keeps. asked.answer clean s (shows (omega (arith, clean, asked.clean)) s keeps))
+    (begun, started, sym c.is_alone-is_alone.ensures.exact ∙ c.if-is_alone.true)
+    c.short_logs_count_as_none.ensures
+    (λ rest gone.
+    ends before (exchange_of 1 [] [] None) ended
+    (λ store last numbered. make.let_go 1 before [] begun ended [] None store started asked.ran last numbered)
+    (λ files close. make.closed 1 before [] begun ended [] None files started asked.ran close)
+    rest gone)
+    c.copy_contents.result c.copy_contents.ensures
+
+pub returns-in-Ok-2 : goal.returns-in-Ok-2
+returns-in-Ok-2 g c before started shows =
+    let begun = c.args.spool in
+    let ended = c.contents.new.self in
+    let ran = c.in-Ok-2.ensures.question.ran in
+    let make = c.calls_make_a_stretch.ensures in (
+      None,
+      ends before (exchange_of 1 [] [] None) ended
+          (λ store last numbered. make.let_go 1 before [] begun ended [] None store started ran last numbered)
+          (λ files close. make.closed 1 before [] begun ended [] None files started ran close)
+          c.let_go.result c.let_go.ensures,
+    )
+
+pub returns-in-Err : goal.returns-in-Err
+returns-in-Err g c before started shows =
+    let begun = c.args.spool in
+    let ended = c.contents.new.self in
+    let ran = c.in-Err.ensures.question.ran in
+    let make = c.calls_make_a_stretch.ensures in
+    let stopped = Some c.in-Err.fault in (
+      stopped,
+      ends before (exchange_of 1 [] [] stopped) ended
+          (λ store last numbered. make.let_go 1 before [] begun ended [] stopped store started ran last numbered)
+          (λ files close. make.closed 1 before [] begun ended [] stopped files started ran close)
+          c.let_go-in-Err.result c.let_go-in-Err.ensures,
+    )

@@ -1,0 +1,100 @@
+-- What a copy of a spool is, and what may take the place of its files.
+use Rattle.std.specs.Prelude.{◌≡◌, ◌<◌, ℕ, List, [], length, IsTrue, Option}
+use Rattle.sqlite_disk.specs.declared.Disk as device
+use Rattle.sqlite_disk.specs.declared.Files.{Files}
+use Rattle.sqlite_wal.specs.Files.{outcomes}
+use Rattle.sqlite_wal.specs.Reads.{AreClean}
+use Rattle.sqlite_wal.specs.Recovery.{Image}
+use Rattle.sqlite_store.specs.declared.store.FileStore.{FileStore}
+use Rattle.sqlite.specs.Files.{over_files}
+use Rattle.uu_core.specs.State.{State, empty}
+use Rattle.uu_schema.specs.declared.fault.StoreFault.{StoreFault}
+use Rattle.uu_adopt.specs.declared.contents.Contents.{Contents}
+use Rattle.uu_adopt.specs.Alone.{is_alone}
+use Rattle.uu_adopt.specs.Contents.{AreContentsOf}
+use Rattle.uu_store.specs.declared.spool.Spool.{Spool}
+use Rattle.uu_store.specs.Closing.{IsClosed}
+use Rattle.uu_store.specs.Exchanges.{exchange_of}
+use Rattle.uu_store.specs.Files.{FilePassed, not_started_for}
+use Rattle.uu_store.specs.Openings.{ImageKeeps, Started}
+use Rattle.uu_store.specs.Spool.{disk}
+use Rattle.uuspool_main.specs.Stretch.{EndsStretch, LetsGo}
+use Rattle.uuspool_main.specs.declared.copying.Copying.{Copying}
+use Rattle.uuspool_main.specs.declared.stretch.Rest.{Rest}
+use Rattle.uuspool_main.specs.declared.copying.Copying.TheVariants as copying
+
+-- In a history, files that held the first may hold the second afterwards: no command was given, and
+-- they keep the state that they kept.
+abbrev pub MayBecome : Image → Image → Type 0
+MayBecome before left = FilePassed before (not_started_for [] left)
+
+-- whatever a stop leaves of the closed files, they may become that
+abbrev pub LeavesClosed : {D : Type 0} → device.Ghosts D → Image → Files D → Type 0
+LeavesClosed g before old = AreClean g old.log old.db → (left : Image) → outcomes g old.log old.db left → MayBecome before left
+
+-- The database of the new files may take the place of the old one, beside the log of the old files: if
+-- the new files held nothing before, the old ones may become that, whatever a stop leaves.
+abbrev pub MayReplace : {D N : Type 0} → device.Ghosts D → device.Ghosts N → Image → Image → Files D → Files N → Type 0
+MayReplace g h before blank old new =
+    ImageKeeps blank empty → AreClean g old.log old.db → AreClean h new.log new.db → (log db : List ℕ) → g.may_leave old.log log → h.may_leave new.db db → MayBecome before (record { log = log; db = db })
+
+-- the spool that was opened in these files had a database with nothing else, so its copy is a copy of
+-- the whole
+abbrev pub WasAlone : {D : Type 0} → device.Ghosts D → Image → Type 0
+WasAlone {D} g before = (opened : Spool (FileStore D g) over_files) × Started before opened × IsTrue (is_alone (disk opened).now.schema)
+
+-- the spool was only read, which is a stretch without a command
+abbrev pub WasRead : {D : Type 0} {g : device.Ghosts D} → Image → Rest D g → Type 0
+WasRead before rest = (stopped : Option StoreFault) × EndsStretch before (exchange_of 1 [] [] stopped) rest
+
+module _ {D N : Type 0} {g : device.Ghosts D} (h : device.Ghosts N) where
+  -- How a copy ended of the spool in files that held this, into files that held nothing. They may be
+  -- replaced by it, or they were only read.
+  abbrev pub IsCopied : Image → Image → Copying D N g → Type 0
+  IsCopied before blank (copying.Whole old new) = WasAlone g before × LeavesClosed g before old × MayReplace g h before blank old new
+  IsCopied before blank (copying.Long old) = LeavesClosed g before old
+  IsCopied before blank (copying.Spared fault rest) = WasRead before rest
+  IsCopied before blank (copying.Unmade fault rest) = WasRead before rest
+
+-- ---- the steps of a copy
+
+-- the database of the new files alone keeps a state with these contents, if they held nothing before
+abbrev pub HasContents : {N : Type 0} → device.Ghosts N → Contents → Image → Files N → Type 0
+HasContents h contents blank new =
+    ImageKeeps blank empty → AreClean h new.log new.db → (s : State) → AreContentsOf s contents → (db : List ℕ) → h.may_leave new.db db → ∥ ImageKeeps (record { log = []; db = db }) s ∥₁
+
+-- closed files were only read since
+pub record IsReadOnly {D : Type 0} (g : device.Ghosts D) (closed old : Files D) : Type 0 where
+  pub left : (image : Image) → outcomes g old.log old.db image → outcomes g closed.log closed.db image
+  pub clean : AreClean g old.log old.db → AreClean g closed.log closed.db
+
+-- the log is so short that it counts as none
+abbrev pub HasShortLog : {D : Type 0} → device.Ghosts D → Files D → Type 0
+HasShortLog g old = AreClean g old.log old.db → (log : List ℕ) → g.may_leave old.log log → length log < 56
+
+-- the spool was closed, and then its files were only read
+abbrev pub IsClosedThen : {D : Type 0} {g : device.Ghosts D} → Spool (FileStore D g) over_files → Files D → Type 0
+IsClosedThen {D} {g} spool old = (closed : Files D) × IsClosed spool closed × IsReadOnly g closed old
+
+module _ {D N : Type 0} {g : device.Ghosts D} where
+  abbrev pub HasLog : Files D → Files N → Copying D N g → Type 0
+  HasLog closed new (copying.Whole old it) = IsReadOnly g closed old × HasShortLog g old × (it ≡ new)
+  HasLog closed new (copying.Long old) = IsReadOnly g closed old
+  HasLog closed new (copying.Spared fault rest) = ⊥
+  HasLog closed new (copying.Unmade fault rest) = ⊥
+
+  abbrev pub Closes : Spool (FileStore D g) over_files → Files N → Copying D N g → Type 0
+  Closes spool new (copying.Whole old it) = IsClosedThen spool old × HasShortLog g old × (it ≡ new)
+  Closes spool new (copying.Long old) = IsClosedThen spool old
+  Closes spool new (copying.Spared fault rest) = LetsGo spool rest
+  Closes spool new (copying.Unmade fault rest) = LetsGo spool rest
+
+  abbrev pub CopiesInto : device.Ghosts N → Contents → Spool (FileStore D g) over_files → Image → Copying D N g → Type 0
+  CopiesInto h contents spool blank (copying.Whole old new) = IsClosedThen spool old × HasShortLog g old × HasContents h contents blank new
+  CopiesInto h contents spool blank (copying.Long old) = IsClosedThen spool old
+  CopiesInto h contents spool blank (copying.Spared fault rest) = LetsGo spool rest
+  CopiesInto h contents spool blank (copying.Unmade fault rest) = LetsGo spool rest
+
+-- the spool that was asked was copied so
+pub record HasCopied {D N : Type 0} {g : device.Ghosts D} (h : device.Ghosts N) (contents : Contents) (spool : Spool (FileStore D g) over_files) (blank : Image) (result : Copying D N g) : Type 0 where
+  pub ended : CopiesInto h contents spool blank result
