@@ -21,7 +21,7 @@ is_own table =
     || is_table table (codes "bodies") body_column_names || is_table table (codes "entries") entry_column_names || is_table table (codes "links") link_column_names
     || is_table table (codes "taken") taken_column_names
 
--- Every table is one of the spool's, the only indexes are those of its four keys, and there is no
+-- Every table is one of the spool's, there are as many indexes as its four keys have, and there is no
 -- view, trigger or table that the port keeps as it is.
 abbrev pub is_alone : Schema → Bool
 is_alone schema = list_all is_own schema.tables && (length schema.indexes == 4) && (length schema.views == 0)

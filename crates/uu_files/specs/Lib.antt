@@ -1,3 +1,4 @@
 pub mod Disk
 pub mod Room
 pub mod Settled
+pub mod Unopened

@@ -1,7 +1,7 @@
 //! A file of a spool: it leaves out syncs that would change nothing, and as a log it takes no page
 //! beyond a limit.
-ghost use Rattle.std.specs.Prelude.{◌≡◌, ◌<◌, ◌+◌, ◌^◌, true, false, length, None, IsErr, IsSomeAnd, IsTrue, OnOk};
-ghost use Rattle.sqlite_disk.specs.Disk.{CountsFault, Follows, Holds, Mixed, Only, StaysFrozen, Torn};
+ghost use Rattle.std.specs.Prelude.{◌≡◌, ◌<◌, ◌+◌, ◌^◌, ℕ, List, true, false, length, is_ok, None, IsErr, IsSomeAnd, IsTrue, OnOk};
+ghost use Rattle.sqlite_disk.specs.Disk.{CountsFault, Cut, Follows, Holds, Mixed, Only, StaysFrozen, Torn};
 ghost use Rattle.sqlite_disk.specs.Tally.{CountsRefusal};
 ghost use Rattle.uu_files.specs.Room.{HasPageBeyond};
 
@@ -149,12 +149,41 @@ impl<D: Disk> Disk for SpoolDisk<D> {
         self.inner.write_at(at, bytes)
     }
 
-    fn set_len(&mut self, len: usize) -> io::Result<()> {
+    fn set_len(&mut self, len: usize) -> io::Result<()>
+        requires { IsTrue (D.Disk.is_usable (inner_of self.old)) }
+        ensures len { OnOk result (length (seen_in self.new) ≡ len) }
+        ensures faults { CountsFault result (faults_of self.old) (faults_of self.new) }
+        ensures clean { IsTrue (is_clean_in self.new) → IsTrue (is_clean_in self.old) }
+        ensures calm { is_clean_in self.new ≡ is_clean_in self.old }
+        ensures fair { D.Disk.is_fair (inner_of self.new) ≡ D.Disk.is_fair (inner_of self.old) }
+        ensures frozen { IsTrue (is_stopped self.old) → IsErr result × StaysFrozen seen_in left_by is_clean_in is_stopped self.old self.new }
+        ensures others { Cut len (seen_in self.old) (seen_in self.new) }
+        ensures tally { CountsRefusal result (D.Disk.tally_of (inner_of self.old)) (D.Disk.tally_of (inner_of self.new)) }
+        ensures key { D.Disk.key_of (inner_of self.new) ≡ D.Disk.key_of (inner_of self.old) }
+        ensures usable { IsTrue (D.Disk.is_usable (inner_of self.new)) }
+        ensures crash { Follows (Cut len) (left_by self.old) (left_by self.new) }
+        ensures most { most_of self.new ≡ most_of self.old }
+    {
         self.dirty = true;
         self.inner.set_len(len)
     }
 
-    fn sync(&mut self) -> io::Result<()> {
+    fn sync(&mut self) -> io::Result<()>
+        requires { IsTrue (D.Disk.is_usable (inner_of self.old)) }
+        ensures durable { OnOk result (Only (seen_in self.old) (left_by self.new)) }
+        ensures faults { CountsFault result (faults_of self.old) (faults_of self.new) }
+        ensures clean { IsTrue (is_clean_in self.new) → IsTrue (is_clean_in self.old) }
+        ensures calm { is_clean_in self.new ≡ is_clean_in self.old }
+        ensures fair { D.Disk.is_fair (inner_of self.new) ≡ D.Disk.is_fair (inner_of self.old) }
+        ensures frozen { IsTrue (is_stopped self.old) → IsErr result × StaysFrozen seen_in left_by is_clean_in is_stopped self.old self.new }
+        ensures seen { seen_in self.new ≡ seen_in self.old }
+        ensures tally { CountsRefusal result (D.Disk.tally_of (inner_of self.old)) (D.Disk.tally_of (inner_of self.new)) }
+        ensures key { D.Disk.key_of (inner_of self.new) ≡ D.Disk.key_of (inner_of self.old) }
+        ensures rot { D.Disk.is_rotten (inner_of self.new) ≡ D.Disk.is_rotten (inner_of self.old) }
+        ensures usable { D.Disk.is_usable (inner_of self.new) ≡ is_ok result }
+        ensures crash { (c : List ℕ) → left_by self.new c → left_by self.old c }
+        ensures most { most_of self.new ≡ most_of self.old }
+    {
         if !self.dirty {
             return Ok(());
         }

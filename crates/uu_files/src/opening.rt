@@ -1,5 +1,5 @@
 //! The two files of a spool, and the database in them.
-ghost use Rattle.std.specs.Prelude.{◌≡◌, ◌≤◌, ◌⊎◌, true, false, codes, None, Err, IsTrue, IfOk, IfErr, IfSome, IsErrAnd};
+ghost use Rattle.std.specs.Prelude.{◌≡◌, ◌≤◌, true, false, codes, None, Err, IsTrue, IfOk, IfErr, IfSome, IsErrAnd};
 ghost use Rattle.sqlite.specs.Files.{file_state, FailsToOpenFiles, IsCleanLeft, IsOpened, LeavesFiles};
 ghost use Rattle.sqlite.specs.Held.{IsNew};
 ghost use Rattle.sqlite.specs.Start.{FindsIn};
@@ -10,6 +10,7 @@ ghost use Rattle.sqlite_wal.specs.Recovery.{Image};
 ghost use Rattle.uu_files.specs.Disk.{most_of};
 ghost use Rattle.uu_files.specs.Room.{IsLimit};
 ghost use Rattle.uu_files.specs.Settled.{AreSettled, pool_pages};
+ghost use Rattle.uu_files.specs.Unopened.{IsWhyUnopened};
 
 use crate::disk::SpoolDisk;
 use crate::room::{PAGE, Room, most_beside};
@@ -31,6 +32,8 @@ const NO_MEMORY: Error = Error::SqliteFailure(ErrorCode::OutOfMemory);
 
 const CANNOT_OPEN: Error = Error::SqliteFailure(ErrorCode::CannotOpen);
 
+const UNREADABLE: Error = Error::SqliteFailure(ErrorCode::SystemIoFailure);
+
 /// Opens the files at the path, or makes them, and the database in them. A new database has sums on
 /// its pages. It does what `Connection::open_from` of `sqlite` does, but its files are synced only
 /// if they are dirty, its log takes no page beyond the limit, and its pool is as large as they need
@@ -47,8 +50,7 @@ pub fn open_database<T: Start>(
     ensures fresh { IfOk result IsNew }
     ensures opened { IfOk result (λ c. HasCleanDisk (file_state c) → IsOpened c) }
     ensures found { IfOk result (λ c. HasCleanDisk (file_state c) → FindsIn (image_at T.Start) (file_state c)) }
-    ensures unopened { IfErr result (λ e. e.1 ≡ None
-        → (e.0 ≡ Error.SqliteFailure ErrorCode.CannotOpen) ⊎ ((e.0 ≡ Error.SqliteFailure ErrorCode.OutOfMemory) ⊎ (e.0 ≡ Error.SqliteFailure ErrorCode.DatabaseBusy))) }
+    ensures unopened { IfErr result (λ e. e.1 ≡ None → IsWhyUnopened e.0) }
     ensures memory { path.now ≡ codes ":memory:" → IsErrAnd result (λ e. e.0 ≡ Error.SqliteFailure ErrorCode.CannotOpen) }
     ensures cause { IfErr result (λ e. IfSome e.1 (λ left. IsCleanLeft left
         → (files : _) × AreSettled ⟦<SpoolFile<T> as Disk>⟧ (image_at T.Start) files × FailsToOpenFiles files left e.0 × LeavesFiles files left)) }
@@ -77,8 +79,8 @@ fn open_pair<T: Start>(
     ensures log { IfOk result (λ files. IsTrue (⟦<SpoolFile<T> as Disk>⟧.is_usable files.log)) }
     ensures db { IfOk result (λ files. IsTrue (⟦<SpoolFile<T> as Disk>⟧.is_usable files.db)) }
     ensures settled { IfOk result (AreSettled ⟦<SpoolFile<T> as Disk>⟧ (image_at T.Start)) }
-    ensures limit { IfOk result (λ files. IsTrue (⟦<SpoolFile<T> as Disk>⟧.is_clean files.db) → IsLimit room (image_at T.Start).db (most_of files.log)) }
-    ensures kind { IfErr result (λ e. (e ≡ Error.SqliteFailure ErrorCode.CannotOpen) ⊎ ((e ≡ Error.SqliteFailure ErrorCode.OutOfMemory) ⊎ (e ≡ Error.SqliteFailure ErrorCode.DatabaseBusy))) }
+    ensures limit { IfOk result (λ files. IsTrue (⟦<SpoolFile<T> as Disk>⟧.is_clean files.db) → IsLimit room (image_at T.Start).db (most_of files.log) × (most_of files.db ≡ None)) }
+    ensures kind { IfErr result IsWhyUnopened }
 {
     if path == ":memory:" || path.starts_with("file:") {
         return Err(CANNOT_OPEN);
@@ -102,12 +104,12 @@ fn behind<T: Start>(files: Files<FileFrom<T>>, room: Room) -> Result<Files<Spool
     ensures log { IfOk result (λ new. IsTrue (⟦<SpoolFile<T> as Disk>⟧.is_usable new.log)) }
     ensures db { IfOk result (λ new. IsTrue (⟦<SpoolFile<T> as Disk>⟧.is_usable new.db)) }
     ensures settled { IfOk result (AreSettled ⟦<SpoolFile<T> as Disk>⟧ (image_at T.Start)) }
-    ensures limit { IfOk result (λ new. IsTrue (⟦<SpoolFile<T> as Disk>⟧.is_clean new.db) → IsLimit room (image_at T.Start).db (most_of new.log)) }
-    ensures kind { IfErr result (λ e. e ≡ Error.SqliteFailure ErrorCode.CannotOpen) }
+    ensures limit { IfOk result (λ new. IsTrue (⟦<SpoolFile<T> as Disk>⟧.is_clean new.db) → IsLimit room (image_at T.Start).db (most_of new.log) × (most_of new.db ≡ None)) }
+    ensures kind { IfErr result (λ e. e ≡ Error.SqliteFailure ErrorCode.SystemIoFailure) }
 {
     let mut files = files;
     let Ok(most) = most_beside(room, &mut files.db) else {
-        return Err(CANNOT_OPEN);
+        return Err(UNREADABLE);
     };
     Ok(Files {
         log: SpoolDisk::synced(files.log, most),

@@ -4,9 +4,10 @@ use crate::refusing::{ALL, NONE, Refusing, text_of, was_refused};
 use crate::values::{
     Bundle, Order, SUNDAY, command, commands, moment, settings, site, take_in, words_of,
 };
-use sqlite::Alter;
+use sqlite::{Alter, Connection};
 use std::alloc::Global;
 use std::fmt::Debug;
+use std::mem::drop;
 use std::process::Abort;
 use uu_core::Filter;
 use uu_store::{Contents, RunEnd, Spool, StoreFault};
@@ -19,6 +20,8 @@ pub(crate) enum Act {
     Run(&'static [Order]),
     /// A neighbour's bundle, taken as one.
     TakeIn(Bundle),
+    /// What another spool keeps after these runs, for one that is empty.
+    Fill(&'static [&'static [Order]]),
     Jobs,
     Job(u32),
     Systems,
@@ -39,6 +42,24 @@ pub(crate) enum Act {
     /// A run that goes on after a command that ran out of memory. It reports the replies after that
     /// command, or leaves them out.
     GoOn(&'static [Order], bool),
+}
+
+impl Act {
+    /// Whether it only asks.
+    pub(crate) fn is_question(self) -> bool {
+        matches!(
+            self,
+            Act::Jobs
+                | Act::Job(_)
+                | Act::Systems
+                | Act::Contents
+                | Act::Due(_)
+                | Act::Entry(_)
+                | Act::Taken(_)
+                | Act::Refusal(_)
+                | Act::Next
+        )
+    }
 }
 
 /// How a call ended.
@@ -177,6 +198,33 @@ fn give_bundle<S: Alter>(
     answer_of(rt, alloc, spool.take_in(alloc, bundle))
 }
 
+/// What a spool in memory keeps after these runs.
+fn contents_after(rt: &impl Abort, alloc: Global, runs: &[&[Order]]) -> Contents {
+    let conn = Connection::open_in_memory(alloc).expect(rt, "memory");
+    let Ok(mut spool) = Spool::adopt(alloc, conn) else {
+        panic!(rt; "it was not taken")
+    };
+    for orders in runs {
+        let end = spool.run(alloc, commands(rt, alloc, orders));
+        assert!(rt; end.stopped.is_none(), "what comes before is not answered");
+    }
+    let contents = spool.contents(alloc).ok().expect(rt, "contents");
+    drop(spool.into_store());
+    contents
+}
+
+fn fill<S: Alter>(
+    rt: &impl Abort,
+    alloc: Global,
+    spool: &mut Spool<S>,
+    runs: &[&[Order]],
+    refusing: Refusing,
+) -> Answered {
+    let contents = contents_after(rt, alloc, runs);
+    refusing.begin(alloc);
+    answer_of(rt, alloc, spool.fill(alloc, &contents))
+}
+
 fn ask_job<S: Alter>(
     rt: &impl Abort,
     alloc: Global,
@@ -303,23 +351,19 @@ pub(crate) fn perform<S: Alter>(
     act: Act,
     refusing: Refusing,
 ) -> Answered {
+    if act.is_question() {
+        return ask(rt, alloc, spool, act, refusing);
+    }
     match act {
         Act::Command(order) => give_command(rt, alloc, spool, order, refusing),
         Act::Run(orders) => give_run(rt, alloc, spool, orders, refusing),
         Act::TakeIn(bundle) => give_bundle(rt, alloc, spool, bundle, refusing),
+        Act::Fill(runs) => fill(rt, alloc, spool, runs, refusing),
         Act::Line(line, input) => serve_words(rt, alloc, spool, line, input, refusing),
         Act::Batch(count) => answer_batch(rt, alloc, spool, count, refusing),
         Act::GoOn(orders, tells) => go_on(rt, alloc, spool, orders, tells, refusing),
         Act::Tell(fault) => tell(rt, alloc, fault, refusing),
-        Act::Jobs
-        | Act::Job(_)
-        | Act::Systems
-        | Act::Contents
-        | Act::Due(_)
-        | Act::Entry(_)
-        | Act::Taken(_)
-        | Act::Refusal(_)
-        | Act::Next => ask(rt, alloc, spool, act, refusing),
+        _ => panic!(rt; "no call"),
     }
 }
 
@@ -438,6 +482,7 @@ const EACH: &[Act] = &[
     Act::Command(Order::Remove("duke")),
     Act::Run(&[]),
     Act::TakeIn(EMPTY),
+    Act::Fill(&[]),
     Act::Jobs,
     Act::Job(1),
     Act::Systems,

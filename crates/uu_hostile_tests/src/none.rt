@@ -16,7 +16,7 @@ use uu_core::{
 };
 use uu_map::MapFault;
 use uu_names::text::{blanks_len, first_line, is_blank, len_before};
-use uu_names::{Grade, Listed, NameFault, Path, SiteName, is_site_byte};
+use uu_names::{Grade, Listed, NameFault, Path, SiteName, is_site_byte, is_site_name, is_word};
 use uu_plain::Machine;
 use uu_schema::{StoreFault, StoreKind};
 use uu_seal::{Key as SealKey, hmac};
@@ -84,12 +84,15 @@ fn texts(rt: HostRuntime) {
     let alloc = rt.alloc();
     ALL.begin(alloc);
     let bytes = (is_blank(b'\t'), is_site_byte(b'-'), is_site_byte(b'!'));
+    let words = (is_site_name(b"duke"), is_site_name(b"a!b"), is_word(b"a!b"));
     let lengths = (blanks_len(b" \tx"), len_before(b"a=b", b'='));
-    let answers = (bytes, lengths, first_line(b"a\nb"));
-    let want = "((true, true, false), (2, 1), ([97], [98]))";
+    let answers = (bytes, words, lengths, first_line(b"a\nb"));
+    let want = "((true, true, false), (true, false, true), (2, 1), ([97], [98]))";
     let names = [
         "is_blank",
         "is_site_byte",
+        "is_site_name",
+        "is_word",
         "blanks_len",
         "len_before",
         "first_line",

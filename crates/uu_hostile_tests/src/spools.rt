@@ -1,7 +1,7 @@
 // The calls of a spool, lines of the program and batches while memory runs out: over a database in
 // memory and over files, both just opened and with kept statements.
 use crate::acts::{Act, REQUESTS};
-use crate::files::{FEW_PAGES, MANY_PAGES, nothing};
+use crate::files::{FEW_PAGES, MANY_PAGES, files_of, nothing};
 use crate::refusing::{ALL, expect_none, is_wrong, refuse_each};
 use crate::trials::{
     Deed, InFiles, InMemory, begun, changed_files, only_stage, prepared, stages_of,
@@ -13,7 +13,7 @@ use sqlite::Connection;
 use std::alloc::Global;
 use std::io::Print;
 use std::process::Abort;
-use uu_store::{StoreFault, StoreKind};
+use uu_store::{StoreFault, StoreKind, has_short_log};
 
 /// A call: its name, what was done before, the call itself, and the same without its later
 /// commands.
@@ -237,6 +237,7 @@ const CALLS: &[Case] = &[
         Act::TakeIn(TAKEN_BEFORE),
         &[],
     ),
+    ("Spool::fill", &[], Act::Fill(&[ORDERS, &[HAND_ON]]), &[]),
     ("Spool::jobs", FULL, Act::Jobs, &[]),
     ("Spool::job", FULL, Act::Job(1), &[]),
     ("Spool::job (none)", FULL, Act::Job(9), &[]),
@@ -781,6 +782,30 @@ fn spools_are_given_back(rt: HostRuntime) {
     ALL.begin(alloc);
     let _store = spool.into_store();
     expect_none(&rt, alloc, &["Spool::into_store"], &(), "()");
+}
+
+/// What is asked of a spool and of its files before it is copied.
+#[test]
+fn spools_that_may_be_copied(rt: HostRuntime) {
+    let alloc = rt.alloc();
+    let conn = Connection::open_in_memory(alloc).expect(&rt, "memory");
+    let mut spool = begun(&rt, alloc, conn, FULL);
+    let contents = spool.contents(alloc).ok().expect(&rt, "contents");
+    ALL.begin(alloc);
+    let answers = (spool.is_alone(), contents.room());
+    let names = ["Spool::is_alone", "Contents::room"];
+    expect_none(&rt, alloc, &names, &answers, "(true, 87447)");
+}
+
+#[test]
+fn logs_that_are_short(rt: HostRuntime) {
+    let alloc = rt.alloc();
+    let mut files = files_of(&rt, alloc, &nothing(alloc));
+    // (the first call syncs the log, for which a disk in memory allocates)
+    let is_short = has_short_log(&mut files);
+    ALL.begin(alloc);
+    let answers = (is_short, has_short_log(&mut files));
+    expect_none(&rt, alloc, &["has_short_log"], &answers, "(true, true)");
 }
 
 // ---- calls that are wrong

@@ -82,19 +82,6 @@ fn answered_again<S: Alter>(
     }
 }
 
-fn is_question(call: Act) -> bool {
-    matches!(
-        call,
-        Act::Jobs
-            | Act::Job(_)
-            | Act::Systems
-            | Act::Contents
-            | Act::Due(_)
-            | Act::Entry(_)
-            | Act::Next
-    )
-}
-
 fn call<S: Alter>(
     rt: &impl Abort,
     alloc: Global,
@@ -111,7 +98,7 @@ fn call<S: Alter>(
         None
     };
     // A question changes nothing, so it has no store that may fail.
-    let is_fault = end == End::Store && is_question(call);
+    let is_fault = end == End::Store && call.is_question();
     Met {
         refused,
         end: if is_fault { End::Other } else { end },

@@ -13,8 +13,6 @@ use Rattle.sqlite.specs.View.{IsClean}
 use Rattle.sqlite.specs.Files.{HoldsDatabase, IsNothing, IsCleanLeft, file_state, over_files}
 use Rattle.sqlite.specs.declared.file.Leftover.{Leftover}
 use Rattle.sqlite.specs.declared.error.Error.{Error}
-use Rattle.sqlite.specs.declared.error.Error.TheVariants.{SqliteFailure}
-use Rattle.sqlite.specs.declared.error.ErrorCode.TheVariants.{CannotOpen, OutOfMemory, DatabaseBusy}
 use Rattle.sqlite.proofs.ListingLemmas.{empty_is_sound}
 use Rattle.sqlite_wal.specs.Recovery.{Image}
 use Rattle.sqlite_catalog.specs.Listing.{IsSound}
@@ -29,6 +27,7 @@ use Rattle.uu_schema.specs.Steps.{Rests, Stands}
 use Rattle.uu_core.specs.State.{State, empty}
 use Rattle.uu_schema.specs.declared.version.Version.{Version}
 use Rattle.uu_schema.specs.Schema.{no_schema}
+use Rattle.uu_files.specs.Unopened.{IsWhyUnopened}
 use Rattle.uu_store.specs.declared.remains.OpenFault.{OpenFault}
 use Rattle.uu_store.specs.declared.remains.Remains.{Remains}
 use Rattle.uu_store.specs.declared.remains.Remains.TheVariants as remains
@@ -202,15 +201,20 @@ away_named image opened found stopped fault away clean = away_rightly image open
 
 -- ---- if nothing was opened
 
-of_database : (error : Error) → (error ≡ SqliteFailure CannotOpen) ⊎ ((error ≡ SqliteFailure OutOfMemory) ⊎ (error ≡ SqliteFailure DatabaseBusy)) → (kind_of_error error ≡ part.Database) ⊎ (kind_of_error error ≡ part.Busy)
-of_database error (inl is) = inl (ap kind_of_error is)
-of_database error (inr (inl is)) = inl (ap kind_of_error is)
-of_database error (inr (inr is)) = inr (ap kind_of_error is)
+kind_of_unopened : (error : Error) → IsWhyUnopened error → (kind_of_error error ≡ part.Database) ⊎ ((kind_of_error error ≡ part.Busy) ⊎ (kind_of_error error ≡ part.Disk))
+kind_of_unopened error (inl is) = inl (ap kind_of_error is)
+kind_of_unopened error (inr (inl is)) = inl (ap kind_of_error is)
+kind_of_unopened error (inr (inr (inl is))) = inr (inl (ap kind_of_error is))
+kind_of_unopened error (inr (inr (inr is))) = inr (inr (ap kind_of_error is))
 
 refused_as : (error : Error) (fault : StoreFault) → (fault ≢ Failed) × IsOfNoContents fault → ((kind : StoreKind) → fault ≡ Store kind → kind ≡ kind_of_error error)
-    → (error ≡ SqliteFailure CannotOpen) ⊎ ((error ≡ SqliteFailure OutOfMemory) ⊎ (error ≡ SqliteFailure DatabaseBusy)) → (fault ≡ Memory) ⊎ ((fault ≡ Store part.Database) ⊎ (fault ≡ Store part.Busy))
+    → IsWhyUnopened error → (fault ≡ Memory) ⊎ ((fault ≡ Store part.Database) ⊎ ((fault ≡ Store part.Busy) ⊎ (fault ≡ Store part.Disk)))
 refused_as error Memory named kinds why = inl refl
-refused_as error (Store kind) named kinds why = inr (elim (of_database error why) [ inl is ↦ inl (ap Store (kinds kind refl ∙ is)) | inr is ↦ inr (ap Store (kinds kind refl ∙ is)) ])
+refused_as error (Store kind) named kinds why = inr (elim (kind_of_unopened error why) [
+  | inl is ↦ inl (ap Store (kinds kind refl ∙ is))
+  | inr (inl is) ↦ inr (inl (ap Store (kinds kind refl ∙ is)))
+  | inr (inr is) ↦ inr (inr (ap Store (kinds kind refl ∙ is)))
+])
 refused_as error Failed named kinds why = absurd (named.0 refl)
 refused_as error Foreign named kinds why = absurd (named.1.0 refl)
 refused_as error Newer named kinds why = absurd (named.1.1 refl)
@@ -225,7 +229,7 @@ module _ {D : Type 0} {g : disk.Ghosts D} (image : Image) where
   alone_of_opening fault (Some it) = tt
 
   pub named_of_opening : (o : Option (Leftover D g)) (error : Error) (fault : StoreFault) → (fault ≢ Failed) × IsOfNoContents fault → ((kind : StoreKind) → fault ≡ Store kind → kind ≡ kind_of_error error)
-      → (o ≡ None → (error ≡ SqliteFailure CannotOpen) ⊎ ((error ≡ SqliteFailure OutOfMemory) ⊎ (error ≡ SqliteFailure DatabaseBusy))) → IfSome o (λ it. IsCleanLeft it → (which : StoreKind) → fault ≡ Store which → HasOpeningCause image which it) → IsRightFault image fault (remains_of_opening o)
+      → (o ≡ None → IsWhyUnopened error) → IfSome o (λ it. IsCleanLeft it → (which : StoreKind) → fault ≡ Store which → HasOpeningCause image which it) → IsRightFault image fault (remains_of_opening o)
   named_of_opening None error fault named kinds why cause = refused_as error fault named kinds (why refl)
   named_of_opening (Some it) error fault named kinds why cause = (named.1, cause)
 

@@ -178,7 +178,7 @@ module _ {D : Type 0} {g : disk.Ghosts D} where
   -- a fault of the store has a cause. If the files weren't opened, the system refused them, another
   -- process had them open, or memory ran out.
   abbrev pub IsRightFault : Image → StoreFault → Remains D g → Type 0
-  IsRightFault before fault remains.Unopened = (fault ≡ Memory) ⊎ ((fault ≡ Store kind.Database) ⊎ (fault ≡ Store kind.Busy))
+  IsRightFault before fault remains.Unopened = (fault ≡ Memory) ⊎ ((fault ≡ Store kind.Database) ⊎ ((fault ≡ Store kind.Busy) ⊎ (fault ≡ Store kind.Disk)))
   IsRightFault before fault (remains.Files it) = IsOfNoContents fault × (IsCleanLeft it → (which : StoreKind) → fault ≡ Store which → HasOpeningCause before which it)
   IsRightFault before fault (remains.Store it) =
       IsTrue (store.view it).is_clean → ((s : State) → ImageKeeps before s → IsOfNoContents fault) × (ImageHasUnversionedTables before → fault ≡ Foreign)
