@@ -1,4 +1,5 @@
 """Programs that are run, locks, and files that are replaced."""
+import ctypes
 import os
 import re
 import signal
@@ -6,13 +7,31 @@ import threading
 import time
 from unittest import mock
 
-from uuspool_calls import contacts, files, night
+from uuspool_calls import contacts, files, kernel, night
 from uuspool_calls import processes as running
 from uuspool_calls.errors import Failure, Stopped
 from uuspool_calls.processes import Child, Children, Processes, Program
 
 from . import standins
 from .standins import Folder
+
+_DUMPABLE = 4  # for the kernel: whether this process may be traced by others of its user
+_NEW_MOUNTS = 0x20000  # what is mounted from now on only this process, and what it begins, sees
+_PRIVATE = 0x44000  # also nothing is mounted for others
+
+
+def _is_hiding() -> bool:
+    """From now on this process is nobody's, and /proc hides what nobody may not trace. False if that can't be."""
+    libc = ctypes.CDLL(None, use_errno=True)
+    if libc.unshare(_NEW_MOUNTS) or libc.mount(None, b"/", None, ctypes.c_ulong(_PRIVATE), None):
+        return False
+    if libc.mount(b"proc", b"/proc", b"proc", ctypes.c_ulong(0), b"hidepid=invisible"):
+        return False
+    os.setgroups([])
+    os.setresgid(65534, 65534, 65534)
+    os.setresuid(65534, 65534, 65534)
+    kernel.control(_DUMPABLE, 1)
+    return not os.path.exists("/proc/1")
 
 
 class Programs(Folder):
@@ -165,6 +184,46 @@ class Stops(Folder):
             return 0 if left == {other.pid} else 1
 
         self.assertEqual(0, Child(work).wait())
+
+    def test_what_proc_hides_is_ended_too(self) -> None:
+        """Below ProtectProc=invisible a user doesn't see its own processes that it may not trace."""
+        if os.geteuid():
+            self.skipTest("only root can mount /proc so that it hides processes")
+        source, sink = os.pipe()
+
+        def begin_far() -> None:
+            if os.fork() == 0:
+                os.setsid()
+                kernel.control(_DUMPABLE, 0)
+                os.write(sink, b"%d" % os.getpid())
+                time.sleep(1000)
+                os._exit(0)
+            number = os.read(source, 20)
+            os.write(sink, number if not os.path.exists(os.fsdecode(b"/proc/" + number)) else b"0")
+
+        def work() -> int:
+            if not _is_hiding():
+                return 77
+            return Processes().run(Program(["sh", "-c", "exit 3"], "/", dict(os.environ), 100, first=begin_far, leaves_none=True)).status
+
+        status = Child(work).wait()
+        if status == 77:
+            self.skipTest("/proc can't be mounted here so that it hides processes")
+        self.assertEqual(3, status)
+        number = int(os.read(source, 20))
+        self.assertNotEqual(0, number)  # (It is hidden.)
+        is_left = os.path.exists(f"/proc/{number}/exe")
+        if is_left:
+            os.kill(number, signal.SIGKILL)
+        self.assertFalse(is_left)
+
+    def test_a_kernel_without_lists_of_children(self) -> None:
+        with mock.patch.object(running, "read_bytes", lambda path: None if path.endswith("/children") else files.read_bytes(path)):
+            child = Child(lambda: time.sleep(100) or 0)
+            self.assertEqual({child.pid}, running._children())
+            child.kill()
+            child.wait()
+            self.assertEqual(set(), running._children())
 
     def test_what_cannot_be_ended_is_not_waited_for(self) -> None:
         begun = time.monotonic()

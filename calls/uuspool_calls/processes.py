@@ -72,12 +72,17 @@ def kill_group(number: int) -> None:
 
 
 def _children() -> set[int]:
-    """The processes whose parent this is."""
-    with contextlib.suppress(ChildProcessError):
-        os.waitid(os.P_ALL, 0, os.WEXITED | os.WNOHANG | os.WNOWAIT)  # (raises that if there are none)
-        stats = ((int(name), read_bytes(f"/proc/{name}/stat") or b"") for name in os.listdir("/proc") if name.isdigit())
-        return {number for number, text in stats if text.rpartition(b") ")[2].split()[1:2] == [b"%d" % os.getpid()]}
-    return set()
+    """The processes whose parent this is. (The kernel lists them for their parent, also if /proc hides some from this user, as
+    below ProtectProc=invisible. One without such lists, by CONFIG_PROC_CHILDREN, is asked for each process that /proc shows.)"""
+    try:
+        os.waitid(os.P_ALL, 0, os.WEXITED | os.WNOHANG | os.WNOWAIT)
+    except ChildProcessError:
+        return set()  # (there are none)
+    threads = [read_bytes(f"/proc/self/task/{name}/children") for name in os.listdir("/proc/self/task")]
+    if any(its is not None for its in threads):
+        return {int(word) for its in threads for word in (its or b"").split()}
+    stats = ((int(name), read_bytes(f"/proc/{name}/stat") or b"") for name in os.listdir("/proc") if name.isdigit())
+    return {number for number, text in stats if text.rpartition(b") ")[2].split()[1:2] == [b"%d" % os.getpid()]}
 
 
 def _adopting() -> set[int]:
