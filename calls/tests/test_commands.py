@@ -382,6 +382,22 @@ class Small(Folder):
         looks._owner = pwd.getpwuid(os.geteuid()).pw_name
         looks._check_settings_below(f"{self.folder}/public")
         self.assertEqual(paths[:2], sorted((line.partition(":")[0] for line in session.printed), key=len))
+        self.assertTrue(all(line.endswith(f" remove it as {looks._owner}.") for line in session.printed), session.printed)
+
+    def test_root_removes_nothing_in_folders_of_others(self) -> None:
+        """Who may write such a folder, or has it, may put a link to one of root's in its place."""
+        for name, mode in ("", 0o777), ("written", 0o775), ("theirs", 0o755), ("own", 0o755):
+            self.put(f"public/{name}/uuspool.toml")
+            os.chmod(f"{self.folder}/public/{name}", mode)
+        self.give(f"{self.folder}/public/theirs")
+        session = Quiet(self.folder)
+        looks = check.Check(session)
+        looks._owner = pwd.getpwuid(os.geteuid()).pw_name
+        looks._check_settings_below(f"{self.folder}/public")
+        removed = [line.partition(":")[0] for line in session.printed if "remove" in line]
+        self.assertEqual([f"{self.folder}/public/uuspool.toml", f"{self.folder}/public/own/uuspool.toml"], removed)
+        left = [line.partition(":")[0] for line in session.printed if "remove" not in line]
+        self.assertEqual([f"{self.folder}/public/theirs", f"{self.folder}/public/written"], left)
 
     def test_what_is_in_the_place_of_a_neighbours_folder(self) -> None:
         session = Quiet(self.folder)

@@ -400,7 +400,7 @@ class Files(Folder):
         self.put("calls/duke.json", b'{"held": true, "same": "%s"}' % (b"x" * ((1 << 16) - 30)))
         self.assertEqual(["duke"], site.contacts.held())
         self.put("calls/duke.json", b'{"held": true}' + b" " * (1 << 16))
-        why = f"{path} has more than 64 KiB, so these commands did not write it: remove it, and hold duke again if it was held"
+        why = f"{path} has more than 64 KiB, so these commands did not write it: remove it as the spool's user, and hold duke again if it was held"
         for uses in site.contacts.held, lambda: site.contacts.change_if_possible("duke", called=1):
             with self.assertRaisesRegex(Failure, f"^{re.escape(why)}$"):
                 uses()

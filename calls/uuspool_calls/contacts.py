@@ -44,7 +44,8 @@ class Contacts:
         text = files.read_bytes(path, _MOST + 1) or b""
         if len(text) > _MOST:
             what = f"{path} has more than {_MOST >> 10} KiB, so these commands did not write it"
-            raise Failure(LATER, f"{what}: remove it, and hold {neighbour} again if it was held")
+            # (Its folder may be a link to one of root's by then, where this user can remove nothing.)
+            raise Failure(LATER, f"{what}: remove it as the spool's user, and hold {neighbour} again if it was held")
         kept, usual = files.record_in(text), Contact._field_defaults
         return Contact(**{name: value for name, value in kept.items() if name in usual and type(value) is type(usual[name])})
 
