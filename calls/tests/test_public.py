@@ -296,13 +296,14 @@ class Envelopes(Folder):
 
     def test_the_first_line_says_from_which_neighbour(self) -> None:
         honest = b"From ann Sat Nov 28 12:00:00 2026 remote from duke\n>From joe x remote from unc\n\nhello"
-        for line in honest, b"From ann remote from duke\n":
+        for line in honest, b"From ann remote from duke\n", b"From a~\xa0\xff remote from duke\n":
             self.assertEqual(line, self.signed(line))
         for text, rest in (
             (b"From president x remote from unc\nhello", b">From president x remote from unc\nhello"),
             (b"From president remote from unc remote from duke\nhello", b">From president remote from unc remote from duke\nhello"),
             (b">From x remote from unc\n", b">From x remote from unc\n"), (b"hello", b"hello"), (b"", b""), (b"From x remote from aduke", b">From x remote from aduke"),
             *((line, b">" + line) for line in (b"From remote from duke\n>From president x", b"From  remote from duke\nx", b"From a x\0 remote from duke\nx", b"From a\tremote from duke\nx")),
+            *((b"From a%cx remote from duke\nx" % it, b">From a%cx remote from duke\nx" % it) for it in (27, 31, 127, 128, 155, 159)),
         ):  # fmt: skip
             first, _, after = self.signed(text).partition(b"\n")
             self.assertRegex(first, rb"^From ann [A-Z][a-z]{2} [A-Z][a-z]{2} [ \d]\d \d\d:\d\d:\d\d \d{4} remote from duke$")

@@ -44,10 +44,10 @@ def _behind(line: bytes, job: Delivered, folder: str) -> Iterator[int]:
 
 def _is_signed(first: bytes, neighbour: str) -> bool:
     """Whether a line says that the mail came from a user of the neighbour. (Of two systems rmail takes the first. It takes
-    the first word for the user, and a zero for the end.)"""
+    the first word for the user, and a zero for the end. A terminal obeys some of the other controls, which are also 127 to 159.)"""
     user, blank, rest = first.removeprefix(b"From ").partition(b" ")
     names_one = first.count(b"remote from ") == 1 and (blank + rest).endswith(f" remote from {neighbour}".encode())
-    return first.startswith(b"From ") and user != b"" and names_one and min(first) >= 32
+    return first.startswith(b"From ") and user != b"" and names_one and not any(it < 32 or 127 <= it < 160 for it in first)
 
 
 def _line(job: Delivered, user: str, site: str) -> bytes:
