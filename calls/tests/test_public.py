@@ -141,6 +141,18 @@ class Public(Folder):
             with self.assertRaisesRegex(Refusal, why):
                 self.asked(path)
 
+    def test_no_device_is_opened(self) -> None:
+        """A pipe stands for it: whoever opens it to write waits until somebody opens it to read."""
+        os.mkfifo(f"{self.folder}/pipe")
+        os.symlink("../pipe", f"{self.folder}/public/device")
+        writer = Child(lambda: os.close(os.open(f"{self.folder}/pipe", os.O_WRONLY)) or 0)
+        time.sleep(0.3)
+        with self.assertRaisesRegex(Refusal, "no readable file"):
+            self.asked("~/device")
+        time.sleep(0.3)
+        writer.kill()
+        self.assertEqual(137, writer.wait())
+
     def test_folders_of_neighbours(self) -> None:
         common = self.put("common/x").removesuffix("/x")
         own, shared = (self.put(f"{it}/x").removesuffix("/x") for it in ("own", "shared"))

@@ -218,13 +218,21 @@ class Public:
     def _open(self, top: int, path: str, below: str) -> int:
         if self._neighbour:
             with contextlib.suppress(OSError):
-                return os.open(f"{self._neighbour}/{below}", _OPEN_FILE, dir_fd=top)
+                return _opened_file(f"{self._neighbour}/{below}", top)
         try:
-            return os.open(below, _OPEN_FILE, dir_fd=top)
+            return _opened_file(below, top)
         except FileNotFoundError:
             raise Refusal(f"{self._own} has no file {path}") from None
         except OSError:
             raise Refusal(f"{path} is no readable file at {self._own}") from None
+
+
+def _opened_file(path: str, folder: int) -> int:
+    """The file of a path. A device isn't opened, to which somebody's link may lead, since that alone may do something."""
+    with opened(path, os.O_PATH | os.O_CLOEXEC, folder=folder) as place:
+        if not stat.S_ISREG(os.fstat(place).st_mode):
+            raise OSError(errno.EINVAL, os.strerror(errno.EINVAL))
+        return os.open(f"/proc/self/fd/{place}", _OPEN_FILE)
 
 
 class _LeadsOut(Exception):
