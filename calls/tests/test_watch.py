@@ -11,7 +11,7 @@ from uuspool_calls.figures import Figures, Neighbour
 from uuspool_calls.processes import Ended
 from uuspool_calls.settings import Settings
 
-from .standins import Folder, Quiet
+from .standins import SITE, Folder, Quiet
 
 STATUS = "duke 2 600 failed 2026-11-28 10:00:00 no-|-carrier\nmysite 0 0 never\nunc 0 0 done 2026-11-28 09:00:00\n"
 QUEUES = "duke 3 500 N 2026-11-27 11:00:00\nmysite 1 20 N 2026-11-28 11:59:00\n"
@@ -50,6 +50,19 @@ class Gathered(Folder):
         )
         self.assertEqual(("mysite", NOON, 1, 3, 2, 10, NOON - 60), (it.own, it.now, it.delayed, it.refused, it.untold, it.spool, it.round))
         self.assertGreater(it.room, 0)
+
+    def test_one_record_that_cannot_be_read(self) -> None:
+        """The others are counted, and of that neighbour what is known."""
+        self.put("calls/duke.json", b" " * ((1 << 16) + 1))
+        self.put("calls/unc.json", '{"called": %d, "held": true}' % NOON)
+        it = figures.gather(Settings("mysite", "", "", f"{self.folder}/spool.db", "", "UTC0"), self.ask)
+        duke, _, unc = it.neighbours
+        self.assertEqual((3, 2, NOON, True, ""), (duke.jobs, duke.failed, unc.called, unc.held, unc.odd))
+        self.assertRegex(duke.odd, "^/.*/calls/duke.json has more than 64 KiB, .*: remove it as the spool's user, and hold duke again")
+        lines = metrics.text(it).splitlines()
+        self.assertEqual(['uuspool_held{site="mysite",neighbour="mysite"} 0', 'uuspool_held{site="mysite",neighbour="unc"} 1'], [line for line in lines if line.startswith("uuspool_held")])
+        grade, line = monitor.report(it._replace(now=NOON, round=0), monitor.Limits())
+        self.assertEqual((1, True), (grade, duke.odd in line))
 
     def test_what_is_used_of_the_limit(self) -> None:
         path = self.put("spool.db")
@@ -139,6 +152,19 @@ class Metrics(Folder):
 
     def test_names_are_escaped(self) -> None:
         self.assertIn('neighbour="a\\\\b\\"c\\nd"} 1', metrics.text(figures_of(Neighbour('a\\b"c\nd', 1))))
+
+    def test_the_file_with_one_record_that_cannot_be_read(self) -> None:
+        for name, text in ("site", SITE.format(self.folder)), ("status", STATUS), ("queues", QUEUES), ("uuspool.toml", ""), ("s/a b.db", "x"):
+            self.put(name, text)
+        self.put("bin/uuspool", f'#!/bin/sh\nexec cat "{self.folder}/$1"\n', 0o755)
+        self.put("s/calls/duke.json", b" " * ((1 << 16) + 1))
+        session = Quiet(self.folder)
+        self.assertEqual(75, check.run(session, ["--metrics", f"{self.folder}/x.prom"]))
+        self.assertRegex("".join(session.said), "^/.*/calls/duke.json has more than 64 KiB, ")
+        text = self.bytes_of("x.prom").decode()
+        for line in 'uuspool_up{site="mysite"} 1', 'uuspool_jobs{site="mysite",neighbour="duke"} 3', 'uuspool_held{site="mysite",neighbour="unc"} 0':
+            self.assertIn(line, text.splitlines())
+        self.assertNotIn('uuspool_held{site="mysite",neighbour="duke"}', text)
 
     def test_the_file(self) -> None:
         session = Quiet(self.folder)

@@ -3,7 +3,7 @@ import os
 from collections.abc import Callable
 
 from . import clock, files
-from .contacts import Contacts
+from .contacts import Contact, Contacts
 from .errors import LATER, Failure
 from .processes import Ended
 from .session import acting_as
@@ -31,6 +31,7 @@ class Neighbour(NamedTuple):
     free: int = 0  # until when it is left alone after a call
     why: str = ""  # the last call failed
     held: bool = False
+    odd: str = ""  # why nobody knows whether it is held
 
 
 class Use(NamedTuple):
@@ -112,9 +113,12 @@ def _called(words: list[str], zone: str, contacts: Contacts) -> Neighbour:
     """What a line of `status` says: system, failed calls, wait, how the last call ended, and when; if it failed, why."""
     name, failed, wait, how, *rest = words
     ended = clock.seconds(zone, " ".join(rest[:2])) if how != "never" else 0
-    known = contacts.find(name)
+    try:
+        known, odd = contacts.find(name), ""
+    except Failure as failure:  # (The others are counted.)
+        known, odd = Contact(), str(failure)
     why = " ".join(rest[2:]) if how == "failed" else ""
-    return Neighbour(name, failed=int(failed), called=max(ended, known.called), free=ended + int(wait), why=why, held=known.held)
+    return Neighbour(name, failed=int(failed), called=max(ended, known.called), free=ended + int(wait), why=why, held=known.held, odd=odd)
 
 
 def _room(folder: str) -> int:

@@ -89,6 +89,7 @@ def _of_neighbour(figures: Figures, its: Neighbour, limits: Limits) -> Iterator[
     yield Fault(grade, f"a job for {its.name} waits for {hours} hours{held}")
     grade = limits.grade(its.failed, limits.failed, limits.failed_often)
     yield Fault(grade, f"{its.failed} calls of {its.name} failed in a row: {its.why}")
+    yield Fault(Grade.WARNING if its.odd else Grade.OK, its.odd)
 
 
 def _of_site(figures: Figures, limits: Limits) -> Iterator[Fault]:
