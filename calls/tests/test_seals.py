@@ -80,7 +80,7 @@ class Seals(Folder):
         self.assertEqual([], list(self.keys.faults("duke", True)))
         self.put("etc/calls/duke", "uucico\n")
         self.add()
-        self.assertEqual([f"{self.folder}/keys/duke has a key, and duke has Taylor UUCP alone, so that nothing it sends is taken: remove it."], list(self.keys.faults("duke", True)))
+        self.assertEqual([f"{self.folder}/keys/duke has a key, and duke has Taylor UUCP alone, so that nothing it sends is taken: remove it as {self.owner}."], list(self.keys.faults("duke", True)))
 
     def test_faults_of_a_file(self) -> None:
         def only() -> str:
@@ -96,9 +96,11 @@ class Seals(Folder):
         self.put("keys/duke", f"{KEY}\n", 0o600)
         self.give(f"{self.folder}/keys/duke")
         self.assertIn("chown -h", only())
+        self.keys._is_named_by_root = False
+        self.assertRegex(only(), f"alone: remove it as {self.owner}$")
         os.remove(f"{self.folder}/keys/duke")
         os.symlink("/etc/passwd", f"{self.folder}/keys/duke")
-        self.assertIn("perhaps a link: remove it", only())
+        self.assertIn(f"perhaps a link: remove it as {self.owner}.", only())
 
     def test_what_a_sealed_bundle_says(self) -> None:
         for text in b"", EXAMPLE, EXAMPLE * 500:

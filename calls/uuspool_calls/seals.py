@@ -72,12 +72,17 @@ class KeyFiles:
         with files.closing(handle):
             os.fchown(handle, *numbers_of(self._owner))
 
+    @property
+    def _removal(self) -> str:
+        """How a file of the folder is removed: by the folder's user, who may put a link to one of root's in the folder's place."""
+        return f"remove it as {self._owner}"
+
     def faults(self, neighbour: str, has_plain_taylor: bool = False) -> Iterator[str]:
         """What is wrong with the file of a neighbour, and what to do. One that has Taylor UUCP alone needs none."""
         path = self.path(neighbour)
         if has_plain_taylor:
             if self.keys(neighbour):
-                yield f"{path} has a key, and {neighbour} has Taylor UUCP alone, so that nothing it sends is taken: remove it."
+                yield f"{path} has a key, and {neighbour} has Taylor UUCP alone, so that nothing it sends is taken: {self._removal}."
             return
         try:
             seen = os.lstat(path)
@@ -88,19 +93,18 @@ class KeyFiles:
             )
             return
         if not stat.S_ISREG(seen.st_mode):
-            yield f"{path} is no file, but perhaps a link: remove it."
+            yield f"{path} is no file, but perhaps a link: {self._removal}."
             return
         if user_name(seen.st_uid) != self._owner or seen.st_mode & _PRIVATE:
-            yield f"{path} has to be {self._owner}'s alone: {giving(path, self._owner, self._is_named_by_root)}"
+            yield f"{path} has to be {self._owner}'s alone: {giving(path, self._owner) if self._is_named_by_root else self._removal}"
             return
         if not self.keys(neighbour) and not self.is_unsealed(neighbour):
             yield f"{path} has no key of 64 hex digits: uuspool-setup {neighbour} seal adds one."
 
 
-def giving(path: str, owner: str, is_named_by_root: bool = True) -> str:
-    """The lines by which root gives a user a file in a folder of this user's, who may put a link there meanwhile. None if
-    this user named the folder, which may be any."""
-    return f"chown -h {owner} {path}; runuser -u {owner} -- chmod 600 {path}" if is_named_by_root else "remove it"
+def giving(path: str, owner: str) -> str:
+    """The lines by which root gives a user a file in a folder of this user's, who may put a link there meanwhile."""
+    return f"chown -h {owner} {path}; runuser -u {owner} -- chmod 600 {path}"
 
 
 def key_in(text: bytes) -> str:
