@@ -218,12 +218,15 @@ class Stops(Folder):
         self.assertFalse(is_left)
 
     def test_a_kernel_without_lists_of_children(self) -> None:
-        with mock.patch.object(running, "read_bytes", lambda path: None if path.endswith("/children") else files.read_bytes(path)):
+        def work() -> int:
             child = Child(lambda: time.sleep(100) or 0)
-            self.assertEqual({child.pid}, running._children())
+            found = running._children()
             child.kill()
             child.wait()
-            self.assertEqual(set(), running._children())
+            return 0 if (found, running._children()) == ({child.pid}, set()) else 1
+
+        with mock.patch.object(running, "read_bytes", lambda path: None if path.endswith("/children") else files.read_bytes(path)):
+            self.assertEqual(0, Child(work).wait())
 
     def test_what_cannot_be_ended_is_not_waited_for(self) -> None:
         begun = time.monotonic()
