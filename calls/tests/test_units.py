@@ -1,0 +1,25 @@
+"""The units of the package."""
+import glob
+import os
+import re
+import unittest
+
+TOP = os.path.dirname(os.path.dirname(os.path.dirname(os.path.realpath(__file__))))
+RUN_MAILERS = {"uuspool-night.service", "uuspool-expire.service"}
+# By these systemd takes new rights from what a unit with `User=` runs (systemd.exec(5), NoNewPrivileges=).
+NO_RIGHTS = re.compile(
+    r"(?m)^(NoNewPrivileges|LockPersonality|MemoryDenyWriteExecute|PrivateDevices|Protect(Clock|Hostname|KernelLogs|KernelModules|KernelTunables)"
+    r"|Restrict(AddressFamilies|Namespaces|Realtime|SUIDSGID)|SystemCall(Architectures|Filter|Log)|DynamicUser)="
+)
+
+
+class Units(unittest.TestCase):
+    def test_a_mailer_keeps_its_rights(self) -> None:
+        found = {}
+        for path in glob.glob(f"{TOP}/examples/*.service"):
+            with open(path, encoding="utf-8") as file:
+                text = file.read()
+            if re.search("(?m)^User=", text):
+                found[os.path.basename(path)] = [it[1] for it in NO_RIGHTS.finditer(text)]
+        self.assertEqual(RUN_MAILERS, {name for name, lines in found.items() if not lines})
+        self.assertLess({*RUN_MAILERS}, {*found})
