@@ -14,6 +14,8 @@ export LC_ALL=C
 # A local user may not enter the spool's folder, so he asks by sudo, which says who he is. Lines of root
 # run as the folder's owner (see below).
 spool=$bin/uuspool member='' common=/var/spool/uuspool site='' why_not=''
+most_printed=16777216 too_much=141 # the bytes that are kept of what the owner's line prints, if root asks, and its status beyond
+has_input=''                       # whether the line reads standard input
 if [ -z "${UUSPOOL_DIR-}" ] && [ -d "$common" ] && ! [ -O "$common" ] && ! [ -O uuspool.toml ] && ! [ -O / ]; then
     member=yes spool="sudo -n -u $(stat -c %U "$common") -- $lib/for-user"
 fi
@@ -24,6 +26,7 @@ its_pieces='' stopped=''
 end() {
     status=$?
     trap '' HUP INT TERM
+    has_input=''
     [ -z "$its_pieces" ] || remove_pieces || plainly "$front: some pieces of $its_name may wait for $system: uustat -k removes them" >&2
     case $status in 0 | "$usage" | "$refused" | "$later") ;; *) exit "$later" ;; esac
 }
@@ -94,6 +97,7 @@ ask() {
     ended=$?
     case $ended in
     1) status=$refused ;;
+    "$too_much") status=$later said="uuspool printed more than $((most_printed >> 20)) MiB, or was ended: ask as the owner of the spool" ;;
     2) if $spool name >/dev/null 2>&1; then status=$usage; else status=$later; fi ;;
     *) status=$later ;;
     esac
@@ -144,7 +148,26 @@ act_as_owner() {
     spool=$bin/uuspool
     ! [ -O "$folder" ] || return 0
     [ "$settings" = /etc/uuspool/uuspool.toml ] || export UUSPOOL_DIR="${settings%/*}"
-    spool="env $(hidden) setsid -w runuser -u $(stat -L -c %U -- "$folder") -- env -C / $bin/uuspool"
+    as_owner="env $(hidden) setsid -w runuser -u $(stat -L -c %U -- "$folder") -- env -C / $bin/uuspool"
+    spool=ask_as_owner
+}
+
+# Runs a line as the owner. Whatever else this user runs may take its open files from it. So it gets no terminal of root's, and no
+# input but that of a job. That may also write into its pipe, so no more of it is kept than fits: the status is $too_much then.
+ask_as_owner() {
+    {
+        ended=$({ {
+            if [ -z "$has_input" ] || [ -t 0 ]; then exec </dev/null; fi
+            if [ -p /dev/fd/2 ]; then exec 2>&1; else exec 2>/dev/null; fi
+            $as_owner "$@" 3>&- 4>&- 5>&- 6>&- 7>&- 8>&- 9>&-
+            echo "$?" >&4
+        } | {
+            head -c "$most_printed" >&3
+            [ "$(head -c 1 | wc -c)" -eq 0 ] || echo more >&4
+        }; } 4>&1)
+    } 3>&1
+    case $ended in '' | *[!0-9]*) ended=$too_much ;; esac
+    return "$ended"
 }
 
 # What stands for the program then.
@@ -174,7 +197,9 @@ expect_one_owner() {
 queue() {
     kind=$1
     shift
+    has_input=yes
     ask --as="$user" "$kind" -g "$grade" -- "$system" "$@"
+    has_input=''
     number=${said#job } number=${number%%[!0-9]*}
 }
 
@@ -182,6 +207,7 @@ queue() {
 # in pieces if it is larger than a job, or if a piece has to say $wishes.
 queue_file() {
     look_at_pieces
+    if [ -c "$input" ]; then keep_typed <"$input" || fail "$later" "$its_name: cannot read"; fi
     size=$(stat -L -c %s -- "$input") || fail "$later" "$its_name: cannot read"
     if [ "$size" -gt "$most" ] || [ -n "$wishes" ]; then
         # shellcheck disable=SC2086 # (no wish has a blank in it)
@@ -228,6 +254,17 @@ read_piece() {
         [ "$(stat -L -c %s /dev/fd/3)" = "$wanted" ] ||
         fail "$later" "$its_name: a piece of it cannot be read whole, because it became shorter or ${TMPDIR:-/tmp} is full: queue it again"
 }
+
+# Keeps standard input in a file without a name, which is $input then.
+keep_input() {
+    make_file
+    cat >&3 || fail "$later" "$its_name cannot be read, or ${TMPDIR:-/tmp} is full"
+    exec 3>&- 6<&4
+    input=/dev/fd/6
+}
+
+# What is typed is queued once it is whole, so that a key ends it.
+keep_typed() { ! [ -t 0 ] || keep_input; }
 
 # Makes a file without a name. It is written by descriptor 3, and read by 4.
 make_file() {

@@ -515,23 +515,14 @@ class Entering(Folder):
         if os.geteuid():
             self.skipTest("only root can give a folder away")
         os.chown(f"{self.folder}/s", 65534, -1)
-        before = os.getcwd()
         session = Quiet(self.folder)
-        became, execute = [], os.execvpe
-
-        def become(program: str, line: list[str], environment: dict[str, str]) -> None:
-            if program != "setsid":
-                execute(program, line, environment)
-            became.append((line, environment["UUSPOOL_DIR"], os.getcwd()))
-            raise SystemExit
-
-        with mock.patch("os.execvpe", become), mock.patch("sys.argv", ["/bin/true", "-n", "duke"]):
-            for words, wanted in (None, ["-n", "duke"]), (["x"], ["x"]):
-                with self.assertRaises(SystemExit):
-                    enter(session, words)
+        with mock.patch("uuspool_calls.relay.run", return_value=3) as relayed, mock.patch("sys.argv", ["/bin/true", "-n", "duke"]):
+            for words, keeps, wanted in (None, (), ["-n", "duke"]), (["x"], (0,), ["x"]):
+                with self.assertRaises(SystemExit) as raised:
+                    enter(session, words, keeps)
                 line = ["setsid", "-w", "runuser", "-u", "nobody", "--", os.path.realpath("/bin/true"), *wanted]
-                self.assertEqual((line, self.folder, "/"), became.pop())
-        os.chdir(before)
+                self.assertEqual((3, mock.call(line, mock.ANY, keeps)), (raised.exception.code, relayed.call_args))
+                self.assertEqual(self.folder, relayed.call_args.args[1]["UUSPOOL_DIR"])
 
     def test_onward(self) -> None:
         self.put_program()

@@ -9,6 +9,7 @@ Nothing is run: everything is queued, for this site, or for a system to which ma
 handed on. If the spool fails, nothing is answered, and the sender's jobs wait there. While too many of its jobs wait
 here, it takes no more, and says nothing of them. The neighbour still gets what waits for it, and the status is 75."""
 import contextlib
+import os
 from collections.abc import Sequence
 
 from . import bundle, carriers
@@ -30,7 +31,7 @@ def run(session: Session, words: Sequence[str]) -> int:
         raise Failure(USAGE, _USAGE)
     # A fault is read at the neighbour, so it says which site it is from.
     session.name = f"uuspool-answer at the site that {sender} called"
-    site = enter(session)
+    site = enter(session, keeps=() if os.isatty(0) else (0,))
     session.name = f"uuspool-answer at {site.own}"
     session.processes.catch_stops()
     with contextlib.ExitStack() as held:

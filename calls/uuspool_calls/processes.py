@@ -109,7 +109,7 @@ def _end_with(work: Callable[[], int], mask: Iterable[int]) -> None:
     status = 1
     try:
         signal.set_wakeup_fd(-1)
-        _handle(signal.SIG_DFL)
+        handle_stops(signal.SIG_DFL)
         signal.pthread_sigmask(signal.SIG_SETMASK, mask)
         status = work()
     except BaseException:
@@ -118,7 +118,7 @@ def _end_with(work: Callable[[], int], mask: Iterable[int]) -> None:
         os._exit(status)
 
 
-def _handle(handler: "Callable[[int, object], None] | signal.Handlers") -> None:
+def handle_stops(handler: "Callable[[int, object], None] | signal.Handlers") -> None:
     """What HUP, INT and TERM do from now on. One that was ignored when this began, as by nohup, stays so."""
     for number in _STOPS:
         if signal.getsignal(number) != signal.SIG_IGN:
@@ -229,7 +229,7 @@ class Processes:
 
     def catch_stops(self) -> None:
         """From now on HUP, INT and TERM end what runs, and then raise Stopped."""
-        _handle(self._stop)
+        handle_stops(self._stop)
         signal.set_wakeup_fd(self._waker, warn_on_full_buffer=False)
 
     def begin_as_child(self) -> None:

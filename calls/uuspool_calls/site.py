@@ -58,11 +58,11 @@ class Site:
         files.touch_if_possible(f"{self.folder}/deliver/keys")
 
 
-def enter(session: Session, words: Sequence[str] | None = None) -> Site:
+def enter(session: Session, words: Sequence[str] | None = None, keeps: Sequence[int] = ()) -> Site:
     """The site of this run. The folder of its spool has to be this user's, so what root runs runs again, with these words
-    or those of this process, as its owner. (The program looks whether the spool is there.)"""
+    or those of this process, as its owner, who gets these streams as they are. (The program looks whether the spool is there.)"""
     found = settings.find(session)
-    _expect_owner(session, found, sys.argv[1:] if words is None else words)
+    _expect_owner(session, found, sys.argv[1:] if words is None else words, keeps)
     site = Site(session, found)
     with site.writing():
         for name in "calls", "deliver", "refused":
@@ -100,7 +100,7 @@ def is_named_by_root(found: settings.Settings) -> bool:
     return os.geteuid() != 0 or not _writers_of(found)
 
 
-def _expect_owner(session: Session, found: settings.Settings, words: Sequence[str]) -> None:
+def _expect_owner(session: Session, found: settings.Settings, words: Sequence[str], keeps: Sequence[int]) -> None:
     """What root made would lock the spool's user out."""
     try:
         owner = os.stat(found.folder).st_uid
@@ -119,10 +119,10 @@ def _expect_owner(session: Session, found: settings.Settings, words: Sequence[st
         raise Failure(NOT_SET_UP, f"{found.folder} belongs to user {owner}, who has no account")
     if found.path == f"{found.start}/uuspool.toml":
         session.environment["UUSPOOL_DIR"] = found.start
-    program = os.path.realpath(sys.argv[0])
-    os.chdir("/")
-    # (In a session of its own what runs as this user can't type at root's terminal.)
-    os.execvpe("setsid", ["setsid", "-w", "runuser", "-u", name, "--", program, *words], session.passed())
+    from . import relay  # (which only root needs)
+
+    line, environment = session.acting(name, [os.path.realpath(sys.argv[0]), *words])
+    raise SystemExit(relay.run(line, environment, keeps))
 
 
 def has_bytes(path: str) -> bool:
