@@ -148,6 +148,15 @@ class Turns(Folder):
         with turn.Turn(path, 0) as third:
             third.wait_for_it(time.sleep)
 
+    def test_who_has_it_is_read_from_the_open_file(self) -> None:
+        path = f"{self.folder}/spool.db"
+        with turn.Turn(path, 1) as first, turn.Turn(path, 0) as second:
+            first.wait_for_it(time.sleep)
+            os.rename(f"{path}-lock", f"{self.folder}/before")
+            os.symlink(self.put("secret", "1234\n"), f"{path}-lock")
+            with self.assertRaisesRegex(Failure, f"process {os.getpid()} has"):
+                second.wait_for_it(time.sleep)
+
     def test_another_users_folder_keeps_its_lock(self) -> None:
         self.give(self.folder)
         with turn.Turn(f"{self.folder}/spool.db", 0, pwd.getpwuid(1).pw_name):
@@ -182,6 +191,34 @@ class Turns(Folder):
                 self.fail("two have it")
             with open(path, "rb+") as other, self.assertRaises(OSError):
                 fcntl.lockf(other, fcntl.LOCK_EX | fcntl.LOCK_NB, 1, 0x40000002)
+
+
+class Journal(Folder):
+    def expect(self, why: str, owner: str = "") -> None:
+        site = mock.Mock(_settings=mock.Mock(spool=f"{self.folder}/spool.db"), _owner=owner)
+        if not why:
+            backup.Backup._expect_no_journal(site)
+            return
+        with self.assertRaisesRegex(Failure, f"^{self.folder}/spool.db-journal{why}"):
+            backup.Backup._expect_no_journal(site)
+
+    def test_what_sqlite_left(self) -> None:
+        self.expect("")
+        for text, why in ("", ""), ("\0" * 9, ""), ("x", " was left by sqlite3"):
+            self.put("spool.db-journal", text)
+            self.expect(why)
+
+    def test_a_link_or_a_file_of_roots_in_its_place(self) -> None:
+        path, owner = f"{self.folder}/spool.db-journal", pwd.getpwuid(1).pw_name if os.geteuid() == 0 else ""
+        os.chmod(self.folder, 0o755)
+        os.mkfifo(f"{self.folder}/device")  # (which reads as nothing)
+        for name in "device", self.put("empty", ""):
+            os.symlink(name, path)
+            self.expect(f", a file of sqlite3, can't be read: Too many levels of symbolic links: have {owner} move it away", owner)
+            os.remove(path)
+        if owner:
+            self.put("spool.db-journal", "", 0o600)
+            self.expect(", a file of sqlite3, can't be read: Permission denied", owner)
 
 
 class Kept(Folder):

@@ -197,8 +197,16 @@ class Backup:
 
     def _expect_no_journal(self) -> None:
         journal = f"{self._settings.spool}-journal"
-        if (files.read_bytes(journal, 1) or b"\0") != b"\0":
-            raise Failure(LATER, f"{journal} was left by sqlite3: open the spool once with sqlite3")
+        try:
+            with acting_as(self._owner):
+                handle = turn.opened(journal, os.O_RDONLY)
+        except FileNotFoundError:
+            return
+        except OSError as error:
+            raise Failure(LATER, f"{journal}, a file of sqlite3, can't be read: {error.strerror}: have {self._owner} move it away") from None
+        with files.closing(handle):
+            if (os.pread(handle, 1, 0) or b"\0") != b"\0":
+                raise Failure(LATER, f"{journal} was left by sqlite3: open the spool once with sqlite3")
 
     def _put(self, path: str, target: Target, name: str) -> None:
         with acting_as(self._owner):

@@ -32,7 +32,8 @@ class Turn(files.Lock):
     def wait_for_it(self, pause: Callable[[float], None]) -> None:
         """Waits for the turn."""
         if not self._tries(self.take, pause):
-            holder = (files.read_bytes(self.path, _MOST_DIGITS) or b"").decode(errors="replace").strip()
+            # (By the path the owner may have put a link there meanwhile.)
+            holder = os.pread(self._handle, _MOST_DIGITS, 0).decode(errors="replace").strip()
             raise Failure(LATER, f"no turn within {self.seconds} seconds: process {holder or '-'} has {self.path}")
         os.pwrite(self._handle, b"%10d\n" % os.getpid(), 0)
 
