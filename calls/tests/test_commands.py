@@ -11,6 +11,7 @@ from uuspool_calls.errors import Failure, Stopped
 from uuspool_calls.jobs import Job
 from uuspool_calls.pieces import COMMAND
 from uuspool_calls.processes import Child, Children, Ended, Processes
+from uuspool_calls.session import user_name
 from uuspool_calls.site import Site, enter
 
 from .standins import LINE, Folder, Quiet, StandIn, parcel, site
@@ -523,6 +524,18 @@ class Entering(Folder):
                 line = ["setsid", "-w", "runuser", "-u", "nobody", "--", os.path.realpath("/bin/true"), *wanted]
                 self.assertEqual((3, mock.call(line, mock.ANY, keeps)), (raised.exception.code, relayed.call_args))
                 self.assertEqual(self.folder, relayed.call_args.args[1]["UUSPOOL_DIR"])
+
+    def test_another_users_program_fills_no_memory(self) -> None:
+        session = Quiet(self.folder)
+        lines = ["head", "-c", "17000000", "/dev/zero"]
+        self.assertEqual(17_000_000, len(session.run_as(user_name(os.geteuid()), lines).output))
+        if os.geteuid():
+            self.skipTest("only root acts as another user")
+        self.assertEqual(1 << 24, len(session.run_as("nobody", ["head", "-c", f"{1 << 24}", "/dev/zero"]).output))
+        for joined in False, True:
+            for words in lines, ["sh", "-c", "yes >&2"]:
+                with self.assertRaisesRegex(Failure, f"^{words[0]}, run as nobody, wrote more than 16 MiB: .*: ps -u nobody$"):
+                    session.run_as("nobody", words, joined=joined)
 
     def test_onward(self) -> None:
         self.put_program()

@@ -4,12 +4,13 @@ import os
 import pwd
 from collections.abc import Iterator, Mapping, Sequence
 
-from .errors import USAGE, Failure
+from .errors import LATER, USAGE, Failure
 from .processes import Ended, Processes, Program
 from .texts import is_number
 
 _PASSED = frozenset("PATH HOME TERM LANG TZ TMPDIR".split())
 _PASSED_HEADS = ("LC_", "UUSPOOL_", "UUCICO_")
+_MOST_OF_ANOTHER = 1 << 24  # bytes that another user's program may write
 _LIBRARY = os.path.dirname(os.path.dirname(os.path.realpath(__file__)))
 
 
@@ -66,9 +67,16 @@ class Session:
 
     def run_as(self, owner: str, words: Sequence[str], given: bytes | int = b"", joined: bool = False) -> Ended:
         """Runs a program as this user, in the present folder. The terminal of root, who may run this, isn't its
-        own, because whatever else this user runs could type there."""
-        words, environment = self.acting(owner, words)
-        return self.processes.run(Program(words, "", environment), given, joined=joined)
+        own, because whatever else this user runs could type there. That could also write into the pipe, so another user's
+        program that writes more than fits is ended."""
+        line, environment = self.acting(owner, words)
+        if line is words:
+            return self.processes.run(Program(line, "", environment), given, joined=joined)
+        ended = self.processes.run(Program(line, "", environment, most=_MOST_OF_ANOTHER, ends_beyond=True), given, joined=joined)
+        if ended.wrote_too_much:
+            why = f"{words[0]}, run as {owner}, wrote more than {_MOST_OF_ANOTHER >> 20} MiB"
+            raise Failure(LATER, f"{why}: try again, and see what else runs as {owner}: ps -u {owner}")
+        return ended
 
     def acting(self, owner: str, words: Sequence[str]) -> tuple[Sequence[str], Mapping[str, str]]:
         """The words by which this user runs a program, and its environment."""
