@@ -35,6 +35,29 @@ class Bundles(unittest.TestCase):
         self.assertEqual([1, 2], [it.number for it in bundle.offers_in(text)])
         self.assertEqual(2, bundle.last_job(text))
 
+    def test_a_front_has_so_many_jobs(self) -> None:
+        jobs = [bundles.job(b"a", b"b", n, b"N", b"ann", b"send /x ~/x", b"\njob 9 9 N u 0 send a b\n\n") for n in range(1, 8)]
+        text = bundles.bundle(b"a", b"b", 1, bundles.has(7, 7), *jobs)
+        for most, left in (1, 1), (6, 6), (7, 7), (20, 7):
+            front = bundle.front(text, most)
+            self.assertEqual((list(range(1, left + 1)), True), ([it.number for it in bundle.offers_in(front)], bundle.has_line(front, b"has")))
+            self.assertEqual(most >= 7, front == text)
+        # (What isn't a job for this reader, and may be one for the program, doesn't count.)
+        odd = text.replace(b"job 3 ", b"job 03 ", 1)
+        self.assertEqual([1, 2], [it.number for it in bundle.offers_in(bundle.front(odd, 6))])
+        self.assertNotIn(b"job 03", bundle.front(odd, 6))
+        self.assertNotIn(b"job 4", bundle.front(text.replace(b"job 1 ", b"job 01 ", 1), 6))
+
+    def test_a_front_of_a_sealed_bundle_has_whole_pieces(self) -> None:
+        said = bundles.bundle(b"a", b"b", 1, *(bundles.job(b"a", b"b", n, b"N", b"ann", b"send /x ~/x", b"") for n in range(1, 500)))
+        pieces = [said[at : at + 4096] for at in range(0, len(said), 4096)]
+        text = b"sealed %064d\n" % 0 + b"".join(b"piece %d %064d\n%s\n" % (len(it), 0, it) for it in pieces)
+        front = bundle.front(text, 100)
+        self.assertEqual(b"".join(pieces[:2]), bundle.said_in(front))
+        self.assertTrue(text.startswith(front))
+        self.assertTrue(100 <= len(list(bundle.offers_in(front))) < 200)
+        self.assertEqual(text, bundle.front(text, 499))
+
     def test_bytes_of_a_job_are_no_record(self) -> None:
         text = bundles.bundle(b"a", b"b", 1, bundles.job(b"a", b"b", 1, b"N", b"ann", b"send /x ~/x", b"\njob 9 9 N u 0 send a b\n\nend\n"))
         self.assertEqual([1], [it.number for it in bundle.offers_in(text)])

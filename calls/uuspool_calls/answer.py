@@ -14,7 +14,7 @@ from collections.abc import Sequence
 
 from . import bundle, carriers
 from .errors import LATER, USAGE, Failure
-from .exchange import Neighbour, NotTaken, expect_size
+from .exchange import Neighbour, NotTaken
 from .session import Session
 from .site import Site, enter
 from .texts import is_name
@@ -44,8 +44,7 @@ def run(session: Session, words: Sequence[str]) -> int:
 def _answer(session: Session, site: Site, sender: str, onward: Sequence[str]) -> None:
     neighbour = Neighbour(site, sender, [*site.onward(sender), *onward], carriers.most_for(session, sender))
     try:
-        text = _read(session, sender)
-        expect_size(sender, text)
+        text = neighbour.front(_read(session, sender))
         taken = neighbour.take(text, replies=True)
     except NotTaken as why:
         raise Failure(LATER, str(why)) from None

@@ -90,6 +90,30 @@ def _offer(words: list[str], text: bytes, place: int) -> Offer | None:
     return Offer(int(words[1]), int(words[2]), words[3], words[4], words[6], tuple(words[7:]), data)
 
 
+def front(text: bytes, most: int) -> bytes:
+    """A bundle without what stands behind so many jobs, which counts as one that was cut off. (One that is sealed ends with a
+    whole piece, so a few more jobs may be in it.)"""
+    said = said_in(text)
+    if said.count(b"\njob ") <= most:  # (a job's bytes may have such lines)
+        return text
+    ends = [end for (end, _), _ in zip(_placed(said), range(most))]
+    last = ends[-1] if ends else said.index(b"\njob ") + 1
+    if said[last:] == b"end\n":
+        return text
+    return said[:last] if said is text else text[: _end_in_pieces(text, last)]
+
+
+def _end_in_pieces(text: bytes, length: int) -> int:
+    """Where the piece ends with which a sealed bundle says so many bytes."""
+    import re
+
+    piece, place, said = re.compile(_PIECE), text.find(b"\n") + 1, 0
+    while said < length and (line := piece.match(text, place)):
+        place = line.end() + int(line[1]) + 1
+        said += int(line[1])
+    return place
+
+
 def has_line(text: bytes, *words: bytes) -> bool:
     """Whether a line of a bundle may begin with one of these words. (A job's bytes may have such a line.)"""
     said = said_in(text)

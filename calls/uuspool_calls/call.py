@@ -11,7 +11,7 @@ from . import bundle, carriers, clock, options
 from .contacts import is_fresh
 from .digests import sha256
 from .errors import LATER, NOT_SET_UP, USAGE, Failure, SpoolError, spool_needed
-from .exchange import Neighbour, NotTaken, Taken, expect_size, finish_moves
+from .exchange import Neighbour, NotTaken, Taken, finish_moves
 from .jobs import Job
 from .processes import Ended, Program
 from .progress import Progress
@@ -226,16 +226,16 @@ class Call:
     def _exchange(self, ours: bytes, before: bytes) -> tuple[bytes, Taken | None]:
         """One bundle there and one back. What came whole counts, even if the carrier failed."""
         ended, is_late = self._carry(ours)
-        taken = None
+        back, taken = ended.output, None
         try:
-            expect_size(self._order.neighbour, ended.output)
-            if ended.output:
-                taken = self._neighbour.take(ended.output)
-                self._count(taken, ended.output == before)
+            back = self._neighbour.front(back)
+            if back:
+                taken = self._neighbour.take(back)
+                self._count(taken, back == before)
         except NotTaken as why:
             self._why = str(why)
         self._judge(ended, is_late)
-        return ended.output, taken
+        return back, taken
 
     def _judge(self, ended: Ended, is_late: bool) -> None:
         """Why the carrier failed, if it did."""

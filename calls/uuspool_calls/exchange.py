@@ -127,6 +127,11 @@ class Neighbour:
 
     # ---- taking bundles
 
+    def front(self, text: bytes) -> bytes:
+        """What is taken of a text that came: not more jobs than may wait here. The neighbour sends again what isn't answered."""
+        expect_size(self._name, text)
+        return bundle.front(text, max(1, self.most_waiting))
+
     def take(self, text: bytes, replies: bool = False) -> Taken:
         """Removes our jobs that a bundle says are there, and then queues its jobs here, unless too many wait. On a full disk
         the first makes room for the second. Then it handles what the neighbour refuses."""
