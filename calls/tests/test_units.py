@@ -23,3 +23,8 @@ class Units(unittest.TestCase):
                 found[os.path.basename(path)] = [it[1] for it in NO_RIGHTS.finditer(text)]
         self.assertEqual(RUN_MAILERS, {name for name, lines in found.items() if not lines})
         self.assertLess({*RUN_MAILERS}, {*found})
+
+    def test_a_mailer_delivers_to_homes(self) -> None:
+        for name in RUN_MAILERS:
+            with open(f"{TOP}/examples/{name}", encoding="utf-8") as file:
+                self.assertEqual([], re.findall("(?m)^(?:ProtectHome|ProtectSystem=strict).*", file.read()), name)
