@@ -1,4 +1,4 @@
-"""The units of the package."""
+"""The units of the package, and its scripts."""
 import glob
 import os
 import re
@@ -23,6 +23,12 @@ class Units(unittest.TestCase):
                 found[os.path.basename(path)] = [it[1] for it in NO_RIGHTS.finditer(text)]
         self.assertEqual(RUN_MAILERS, {name for name, lines in found.items() if not lines})
         self.assertLess({*RUN_MAILERS}, {*found})
+
+    def test_the_spools_user_lets_no_script_fail(self) -> None:
+        for name, found in ("postinst", 2), ("postrm", 2):
+            with open(f"{TOP}/packaging/{name}", encoding="utf-8") as file:
+                lines = re.findall(r'(?m)^.*(?:ln|rm) -[a-zA-Z]+ .*"\$spool/.*$', file.read())
+            self.assertEqual((found, []), (len(lines), [it for it in lines if "|| :" not in it]), name)
 
     def test_a_mailer_delivers_to_homes(self) -> None:
         for name in RUN_MAILERS:
