@@ -30,6 +30,10 @@ class Units(unittest.TestCase):
                 lines = re.findall(r'(?m)^.*(?:ln|rm) -[a-zA-Z]+ .*"\$spool/.*$', file.read())
             self.assertEqual((found, []), (len(lines), [it for it in lines if "|| :" not in it]), name)
 
+    def test_a_purge_takes_the_page(self) -> None:
+        with open(f"{TOP}/examples/uuspool-page.service", encoding="utf-8") as unit, open(f"{TOP}/packaging/postrm", encoding="utf-8") as script:
+            self.assertIn(f"rm -rf /var/log/uuspool /var/lib/{re.findall('(?m)^StateDirectory=(.*)$', unit.read())[0]} ", script.read())
+
     def test_a_mailer_delivers_to_homes(self) -> None:
         for name in RUN_MAILERS:
             with open(f"{TOP}/examples/{name}", encoding="utf-8") as file:
