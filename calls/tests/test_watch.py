@@ -79,6 +79,9 @@ class Gathered(Folder):
         found = Settings("mysite", "", "", f"{self.folder}/spool.db", "", "UTC0")
         with self.assertRaisesRegex(Failure, "the spool cannot be asked: uuspool: x is missing"):
             figures.gather(found, lambda *words, joined=False: Ended(3, b"uuspool: x is missing\n", b""))
+        for line in "$(id) 9 0 failed 2026-11-28 10:00:00 x", "d;id 0 0 never", "duke 0", "duke x 0 never", "-x 0 0 never", "":
+            with self.assertRaisesRegex(Failure, "^uuspool printed something else than systems: try again, and see what else"):
+                figures.gather(found, lambda *words, joined=False: Ended(0, f"{STATUS}{line}\n".encode(), b""))
 
 
 class Monitor(Folder):
@@ -192,6 +195,29 @@ class Checked(Folder):
         self.check._check_failures()
         (line,) = self.said
         self.assertRegex(line, "^12 calls of duke failed in a row, the last one at 2026-11-28 10:00:00: no-|-carrier: uuspool-log -s duke")
+
+    def test_names_that_something_else_wrote(self) -> None:
+        self.put("spool.db", "x", 0o600)
+        self.put("spool.db-word", "x")
+        self.put("site", SITE.format(self.folder).replace("a b.db", "spool.db"))
+        odd = "uuspool printed something else than systems: try again, and see what else runs as its user."
+        for name in "d;id", "$(id)", "-x":
+            self.said.clear()
+            with mock.patch.object(self.check, "_as_owner", return_value=Ended(0, f"{name} 9 0 failed 2026-11-28 10:00:00 x\n".encode(), b"")):
+                with mock.patch.object(self.check, "_missing_spool", return_value=""), mock.patch.object(self.check, "_check_folder"), mock.patch.object(check, "owner_of", return_value="root"):
+                    self.assertFalse(self.check.spool())
+                self.check.calls()
+            self.assertEqual([odd, odd], self.said[:2])
+            self.assertFalse([it for it in self.said if name in it])
+
+    def test_what_something_else_wrote_for_uuspool_sys(self) -> None:
+        self.put("etc/sys", "system root\ntime Any\n")
+        self.check._own, self.check._systems = "root", frozenset(["root"])
+        for line, told in ("defines unc", True), ("x ; curl x | sh", False), ("drops d;id", False), ("drops a b", False), ("uuspool-sys: odd", True), ("", False):
+            self.said.clear()
+            with mock.patch.object(self.check, "_as_owner", return_value=Ended(0, f"{line}\n".encode(), b"")):
+                self.check.systems()
+            self.assertEqual([f"{self.folder}/etc/sys and the spool differ, or a line means nothing; run uuspool-sys, which says: '{line}'"] * told, self.said)
 
     def test_su(self) -> None:
         line = "auth requisite pam_succeed_if.so quiet user notingroup root"

@@ -9,7 +9,7 @@ from .processes import Ended
 from .session import acting_as
 from .settings import Settings
 from .site import ROUND
-from .texts import one_line
+from .texts import is_name, one_line
 from .values import NamedTuple
 
 _UNTOLD = ".untold"
@@ -17,6 +17,7 @@ _PAGE = 4096  # bytes
 _FREE = slice(36, 40)  # where the head of an SQLite database has the number of its free pages
 _NEARLY = 4, 5  # of the limit: soon nothing may be added
 _Ask = Callable[..., Ended]  # a line of the program, as the spool's user
+_ODD = "uuspool printed something else than systems: try again, and see what else runs as its user"
 
 
 class Neighbour(NamedTuple):
@@ -75,8 +76,11 @@ class Figures(NamedTuple):
 def gather(found: Settings, ask: _Ask, owner: str = "") -> Figures:
     """The figures of a site. For root its owner looks at the files, who may have put links there: others read the figures."""
     status, queues = _lines(ask, "status"), _lines(ask, "queues")
-    with acting_as(owner):
-        return _figures(found, status, queues)
+    try:
+        with acting_as(owner):
+            return _figures(found, status, queues)
+    except ValueError:
+        raise Failure(LATER, _ODD) from None
 
 
 def _figures(found: Settings, status: list[list[str]], queues: list[list[str]]) -> Figures:
@@ -106,7 +110,16 @@ def _lines(ask: _Ask, subcommand: str) -> list[list[str]]:
     ended = ask("uuspool", subcommand, joined=True)
     if ended.status:
         raise Failure(LATER, f"the spool cannot be asked: {one_line(ended.output)}")
-    return [line.split(" ") for line in ended.output.decode().splitlines()]
+    return named(ended.output)
+
+
+def named(output: bytes, least: int = 4) -> list[list[str]]:
+    """The words of an answer, each line of which has so many at least, and begins with the name of a system. Failure otherwise:
+    whatever else runs as the spool's user may have written into the pipe, and root may type such a name."""
+    lines = [line.split(" ") for line in output.decode(errors="replace").splitlines()]
+    if not all(is_name(words[0]) and len(words) >= least for words in lines):
+        raise Failure(LATER, _ODD)
+    return lines
 
 
 def _called(words: list[str], zone: str, contacts: Contacts) -> Neighbour:
