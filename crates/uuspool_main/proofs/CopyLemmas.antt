@@ -16,7 +16,7 @@ use Rattle.uu_store.specs.declared.spool.Spool.{Spool}
 use Rattle.uu_store.specs.Closing.{IsClosed}
 use Rattle.uu_store.specs.Openings.{ImageKeeps}
 use Rattle.uu_store.specs.Spool.{disk, Shows}
-use Rattle.uuspool_main.specs.Copying.{Closes, CopiesInto, HasContents, HasCopied, HasLog, IsReadOnly, HasShortLog, IsClosedThen, IsCopied, LeavesClosed, MayReplace, WasAlone}
+use Rattle.uuspool_main.specs.Copying.{Closes, CopiesInto, HasContents, HasCopied, HasLog, IsReadOnly, HasShortLog, IsClosedThen, IsCopied, LeavesClosed, MayReplace, WasCopied}
 use Rattle.uuspool_main.specs.Stretch.{EndsStretch, LetsGo, ShowsKept}
 use Rattle.uuspool_main.specs.declared.copying.Copying.{Copying}
 use Rattle.uuspool_main.specs.declared.copying.Copying.TheVariants as copying
@@ -43,18 +43,18 @@ module _ {D N : Type 0} {g : device.Ghosts D} (h : device.Ghosts N) (before blan
   may_replace short_counts old new (closed, close, read) short has nothing clean clean_new log db may_log may_db =
       (refl, refl, λ s keeps. ∥∥₁_map (has nothing clean_new s (shows (close.clean (read.clean clean)) s keeps).0 db may_db) (λ kept. short_counts log db s (short clean log may_log) kept))
 
-  copied_into : WasAlone g before → ((log db : List ℕ) (s : State) → length log < 56 → ImageKeeps (record { log = []; db = db }) s → ImageKeeps (record { log = log; db = db }) s)
+  copied_into : ((old : Files D) (new : Files N) → IsClosedThen spool old → HasContents h contents blank new → WasCopied g h before blank old new) → ((log db : List ℕ) (s : State) → length log < 56 → ImageKeeps (record { log = []; db = db }) s → ImageKeeps (record { log = log; db = db }) s)
       → ((rest : Rest D g) → LetsGo spool rest → EndsStretch before (exchange_of 1 [] [] None) rest)
       → (result : Copying D N g) → CopiesInto h contents spool blank result → IsCopied h before blank result
-  copied_into alone short_counts ends (copying.Whole old new) (closed, short, has) = (alone, leaves_closed old closed, may_replace short_counts old new closed short has)
-  copied_into alone short_counts ends (copying.Long old) closed = leaves_closed old closed
-  copied_into alone short_counts ends (copying.Spared fault rest) gone = (None, ends rest gone)
-  copied_into alone short_counts ends (copying.Unmade fault rest) gone = (None, ends rest gone)
+  copied_into whole short_counts ends (copying.Whole old new) (closed, short, has) = (whole old new closed has, leaves_closed old closed, may_replace short_counts old new closed short has)
+  copied_into whole short_counts ends (copying.Long old) closed = leaves_closed old closed
+  copied_into whole short_counts ends (copying.Spared fault rest) gone = (None, tt, ends rest gone)
+  copied_into whole short_counts ends (copying.Unmade fault rest) gone = (None, tt, ends rest gone)
 
-  pub copied : WasAlone g before → ((log db : List ℕ) (s : State) → length log < 56 → ImageKeeps (record { log = []; db = db }) s → ImageKeeps (record { log = log; db = db }) s)
+  pub copied : ((old : Files D) (new : Files N) → IsClosedThen spool old → HasContents h contents blank new → WasCopied g h before blank old new) → ((log db : List ℕ) (s : State) → length log < 56 → ImageKeeps (record { log = []; db = db }) s → ImageKeeps (record { log = log; db = db }) s)
       → ((rest : Rest D g) → LetsGo spool rest → EndsStretch before (exchange_of 1 [] [] None) rest)
       → (result : Copying D N g) → HasCopied h contents spool blank result → IsCopied h before blank result
-  copied alone short_counts ends result it = copied_into alone short_counts ends result it.ended
+  copied whole short_counts ends result it = copied_into whole short_counts ends result it.ended
 
 -- ---- the steps of a copy
 

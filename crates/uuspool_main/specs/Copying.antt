@@ -1,5 +1,5 @@
 -- What a copy of a spool is, and what may take the place of its files.
-use Rattle.std.specs.Prelude.{◌≡◌, ◌<◌, ℕ, List, [], length, IsTrue, Option}
+use Rattle.std.specs.Prelude.{◌≡◌, ◌<◌, ℕ, List, [], length, IsTrue, IfSome, Option, None, Some, Ok}
 use Rattle.sqlite_disk.specs.declared.Disk as device
 use Rattle.sqlite_disk.specs.declared.Files.{Files}
 use Rattle.sqlite_wal.specs.Files.{outcomes}
@@ -17,6 +17,7 @@ use Rattle.uu_store.specs.Closing.{IsClosed}
 use Rattle.uu_store.specs.Exchanges.{exchange_of}
 use Rattle.uu_store.specs.Files.{FilePassed, not_started_for}
 use Rattle.uu_store.specs.Openings.{ImageKeeps, Started}
+use Rattle.uu_store.specs.Questions.{IsQuestion}
 use Rattle.uu_store.specs.Spool.{disk}
 use Rattle.uuspool_main.specs.Stretch.{EndsStretch, LetsGo}
 use Rattle.uuspool_main.specs.declared.copying.Copying.{Copying}
@@ -38,25 +39,7 @@ abbrev pub MayReplace : {D N : Type 0} → device.Ghosts D → device.Ghosts N �
 MayReplace g h before blank old new =
     ImageKeeps blank empty → AreClean g old.log old.db → AreClean h new.log new.db → (log db : List ℕ) → g.may_leave old.log log → h.may_leave new.db db → MayBecome before (record { log = log; db = db })
 
--- the spool that was opened in these files had a database with nothing else, so its copy is a copy of
--- the whole
-abbrev pub WasAlone : {D : Type 0} → device.Ghosts D → Image → Type 0
-WasAlone {D} g before = (opened : Spool (FileStore D g) over_files) × Started before opened × IsTrue (is_alone (disk opened).now.schema)
-
--- the spool was only read, which is a stretch without a command
-abbrev pub WasRead : {D : Type 0} {g : device.Ghosts D} → Image → Rest D g → Type 0
-WasRead before rest = (stopped : Option StoreFault) × EndsStretch before (exchange_of 1 [] [] stopped) rest
-
-module _ {D N : Type 0} {g : device.Ghosts D} (h : device.Ghosts N) where
-  -- How a copy ended of the spool in files that held this, into files that held nothing. They may be
-  -- replaced by it, or they were only read.
-  abbrev pub IsCopied : Image → Image → Copying D N g → Type 0
-  IsCopied before blank (copying.Whole old new) = WasAlone g before × LeavesClosed g before old × MayReplace g h before blank old new
-  IsCopied before blank (copying.Long old) = LeavesClosed g before old
-  IsCopied before blank (copying.Spared fault rest) = WasRead before rest
-  IsCopied before blank (copying.Unmade fault rest) = WasRead before rest
-
--- ---- the steps of a copy
+-- ---- what was done with the two spools
 
 -- the database of the new files alone keeps a state with these contents, if they held nothing before
 abbrev pub HasContents : {N : Type 0} → device.Ghosts N → Contents → Image → Files N → Type 0
@@ -68,13 +51,41 @@ pub record IsReadOnly {D : Type 0} (g : device.Ghosts D) (closed old : Files D) 
   pub left : (image : Image) → outcomes g old.log old.db image → outcomes g closed.log closed.db image
   pub clean : AreClean g old.log old.db → AreClean g closed.log closed.db
 
--- the log is so short that it counts as none
-abbrev pub HasShortLog : {D : Type 0} → device.Ghosts D → Files D → Type 0
-HasShortLog g old = AreClean g old.log old.db → (log : List ℕ) → g.may_leave old.log log → length log < 56
-
 -- the spool was closed, and then its files were only read
 abbrev pub IsClosedThen : {D : Type 0} {g : device.Ghosts D} → Spool (FileStore D g) over_files → Files D → Type 0
 IsClosedThen {D} {g} spool old = (closed : Files D) × IsClosed spool closed × IsReadOnly g closed old
+
+-- One spool was opened in files that held this. Its database had nothing else, so a copy of what it keeps
+-- is a copy of the whole. Then it was asked for its contents, which the new files have, and closed.
+pub record WasCopied {D N : Type 0} (g : device.Ghosts D) (h : device.Ghosts N) (before blank : Image) (old : Files D) (new : Files N) : Type 0 where
+  pub opened : Spool (FileStore D g) over_files
+  pub asked : Spool (FileStore D g) over_files
+  pub contents : Contents
+  pub started : Started before opened
+  pub alone : IsTrue (is_alone (disk opened).now.schema)
+  pub read : IsQuestion AreContentsOf opened asked (Ok contents)
+  pub has : HasContents h contents blank new
+  pub closed : IsClosedThen asked old
+
+-- The spool was only read, which is a stretch without a command. If it couldn't be read to the end, this
+-- fault says why.
+abbrev pub WasRead : {D : Type 0} {g : device.Ghosts D} → Image → Option StoreFault → Rest D g → Type 0
+WasRead before fault rest = (stopped : Option StoreFault) × IfSome stopped (λ why. fault ≡ Some why) × EndsStretch before (exchange_of 1 [] [] stopped) rest
+
+module _ {D N : Type 0} {g : device.Ghosts D} (h : device.Ghosts N) where
+  -- How a copy ended of the spool in files that held this, into files that held nothing. They may be
+  -- replaced by it, or they were only read.
+  abbrev pub IsCopied : Image → Image → Copying D N g → Type 0
+  IsCopied before blank (copying.Whole old new) = WasCopied g h before blank old new × LeavesClosed g before old × MayReplace g h before blank old new
+  IsCopied before blank (copying.Long old) = LeavesClosed g before old
+  IsCopied before blank (copying.Spared fault rest) = WasRead before fault rest
+  IsCopied before blank (copying.Unmade fault rest) = WasRead before None rest
+
+-- ---- the steps of a copy
+
+-- the log is so short that it counts as none
+abbrev pub HasShortLog : {D : Type 0} → device.Ghosts D → Files D → Type 0
+HasShortLog g old = AreClean g old.log old.db → (log : List ℕ) → g.may_leave old.log log → length log < 56
 
 module _ {D N : Type 0} {g : device.Ghosts D} where
   abbrev pub HasLog : Files D → Files N → Copying D N g → Type 0

@@ -1,4 +1,4 @@
-use Rattle.std.proofs.Common.{[], None, Some, arith, sym, ◌∙◌}
+use Rattle.std.proofs.Common.{[], None, Some, arith, refl, sym, ◌∙◌}
 use Rattle.sqlite_wal.specs.Files.{image_at}
 use Rattle.uu_store.specs.Exchanges.{exchange_of}
 use Rattle.uuspool_main.proofs.CopyLemmas.{copied}
@@ -14,7 +14,16 @@ returns-in-Ok g c before started shows =
     let make = c.calls_make_a_stretch.ensures in
     copied _ before (image_at g.N.Start) c.in-Ok.contents ended
     (λ clean s keeps. asked.answer clean s (shows (omega (arith, clean, asked.clean)) s keeps))
-    (begun, started, sym c.is_alone-is_alone.ensures.exact ∙ c.if-is_alone.true)
+    (λ old new closed has. record {
+      opened = begun;
+      asked = ended;
+      contents = c.in-Ok.contents;
+      started = started;
+      alone = sym c.is_alone-is_alone.ensures.exact ∙ c.if-is_alone.true;
+      read = asked;
+      has = has;
+      closed = closed;
+    })
     c.short_logs_count_as_none.ensures
     (λ rest gone.
     ends before (exchange_of 1 [] [] None) ended
@@ -30,6 +39,7 @@ returns-in-Ok-2 g c before started shows =
     let ran = c.in-Ok-2.ensures.question.ran in
     let make = c.calls_make_a_stretch.ensures in (
       None,
+      tt,
       ends before (exchange_of 1 [] [] None) ended
           (λ store last numbered. make.let_go 1 before [] begun ended [] None store started ran last numbered)
           (λ files close. make.closed 1 before [] begun ended [] None files started ran close)
@@ -44,6 +54,7 @@ returns-in-Err g c before started shows =
     let make = c.calls_make_a_stretch.ensures in
     let stopped = Some c.in-Err.fault in (
       stopped,
+      refl,
       ends before (exchange_of 1 [] [] stopped) ended
           (λ store last numbered. make.let_go 1 before [] begun ended [] stopped store started ran last numbered)
           (λ files close. make.closed 1 before [] begun ended [] stopped files started ran close)
