@@ -5,7 +5,6 @@ import pty
 import signal
 import socket
 import sys
-import time
 import unittest
 
 from uuspool_calls import processes, relay
@@ -13,8 +12,8 @@ from uuspool_calls import processes, relay
 SHOWS = 'import os, stat; print(*["terminal" if os.isatty(it) else "pipe" if stat.S_ISFIFO(os.fstat(it).st_mode) else os.path.realpath(f"/proc/self/fd/{it}") for it in (0, 1, 2)], sorted(os.listdir("/proc/self/fd"))[3:-1])'
 
 
-def typed(*words: str, keeps: tuple[int, ...] = (), seconds: float = 0, number: int = 0, output: int | None = None) -> tuple[int, str]:
-    """The status of these words that root types at a terminal, and what that shows. After so many seconds root sends a signal."""
+def typed(*words: str, keeps: tuple[int, ...] = (), number: int = 0, output: int | None = None) -> tuple[int, str]:
+    """The status of these words that root types at a terminal, and what that shows. After the first line root sends a signal."""
     process, terminal = pty.fork()
     if process == 0:
         status = 99
@@ -25,13 +24,13 @@ def typed(*words: str, keeps: tuple[int, ...] = (), seconds: float = 0, number: 
             status = relay.run(words, dict(os.environ), keeps)
         finally:
             os._exit(status)
-    if number:
-        time.sleep(seconds)
-        os.kill(process, number)
     text = b""
     with contextlib.suppress(OSError):
         while block := os.read(terminal, 4096):
             text += block
+            if number and b"\n" in text:
+                os.kill(process, number)
+                number = 0
     status = os.waitstatus_to_exitcode(os.waitpid(process, 0)[1])
     os.close(terminal)
     return status, text.decode().replace("\r\n", "\n")
@@ -73,7 +72,7 @@ class Relay(unittest.TestCase):
     def test_a_stop_reaches_what_runs(self) -> None:
         script = "trap 'echo stopped; exit 7' HUP; sleep 100 & echo $$; wait"
         for number in signal.SIGHUP, signal.SIGINT, signal.SIGTERM:
-            status, text = typed("setsid", "-w", "sh", "-c", script, seconds=1, number=number)
+            status, text = typed("setsid", "-w", "sh", "-c", script, number=number)
             self.assertEqual((7, ["stopped"]), (status, text.split("\n")[1:-1]))
 
     def test_what_cannot_run(self) -> None:
