@@ -8,8 +8,9 @@ import subprocess
 import unittest
 from unittest import mock
 
-from uuspool_calls import check, cli, units
+from uuspool_calls import check, cli, files, units
 from uuspool_calls.errors import Stopped
+from uuspool_calls.processes import kill_group
 
 from .standins import Folder, Quiet
 
@@ -63,7 +64,7 @@ LOG = "2026-11-28 10:00:00 duke ann 7 done send\n"
 
 
 class Rotated(Folder):
-    """The package's lines for logrotate, below lines of the machine that would have old logs compressed, with dates, elsewhere."""
+    """The package's lines for logrotate, below lines of the machine that have old logs compressed."""
 
     def setUp(self) -> None:
         super().setUp()
@@ -77,19 +78,26 @@ class Rotated(Folder):
         with open(f"{TOP}/packaging/logrotate", encoding="utf-8") as file:
             text = file.read()
         self.assertIn(f"{ROTATED}/log {{", text)
-        self.put("conf", f"compress\ndateext\nstart 0\nolddir {self.folder}/old\n{text.replace(ROTATED, self.logs)}")
+        self.put("package", text.replace(ROTATED, self.logs))
         self.ours("log", LOG)
 
     def ours(self, name: str, text: str) -> None:
         shutil.chown(self.put(f"logs/{name}", text), "uucp")
 
-    def rotate(self) -> None:
-        subprocess.run(["/usr/sbin/logrotate", "-f", "-s", f"{self.folder}/state", f"{self.folder}/conf"], check=True, timeout=20)
+    def rotate(self, machine: str = "") -> None:
+        """Rotates, with these lines of the machine before."""
+        self.put("conf", f"compress\n{machine}\ninclude {self.folder}/package\n")
+        line = ["/usr/sbin/logrotate", "-f", "-s", f"{self.folder}/state", f"{self.folder}/conf"]
+        with subprocess.Popen(line, start_new_session=True) as process:
+            try:
+                self.assertEqual(0, process.wait(20))
+            finally:
+                kill_group(process.pid)
 
     def test_old_logs_are_where_uulog_reads_them(self) -> None:
-        self.rotate()
-        self.assertEqual(LOG.encode(), self.bytes_of("logs/log.1"))
+        self.rotate(f"dateext\nstart 0\nolddir {self.folder}/old")
         self.assertEqual(["log", "log.1"], sorted(os.listdir(self.logs)))
+        self.assertEqual(LOG.encode(), self.bytes_of("logs/log.1"))
         its = os.stat(f"{self.logs}/log")
         self.assertEqual((0o600, "uucp"), (its.st_mode & 0o777, pwd.getpwuid(its.st_uid).pw_name))
 
@@ -98,7 +106,7 @@ class Rotated(Folder):
             os.mkfifo(f"{self.logs}/{name}")
             shutil.chown(f"{self.logs}/{name}", "uucp")
         self.rotate()
-        self.assertEqual(LOG.encode(), self.bytes_of("logs/log.1"))
+        self.assertEqual(LOG.encode(), files.read_bytes(f"{self.logs}/log.1"))
 
     def test_a_link_leads_to_no_file_of_roots(self) -> None:
         victim = self.put("victim", "root's")
