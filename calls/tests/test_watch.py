@@ -251,10 +251,12 @@ class Checked(Folder):
             self.check._check_accounts()
         with mock.patch("pwd.getpwnam", return_value=pwd.struct_passwd(("uuspool", "x", 10, 10, "", "/", "/usr/sbin/nologin"))):
             self.check._check_accounts()
-        self.check._owner = "12345"
-        with mock.patch("pwd.getpwnam", return_value=pwd.struct_passwd(("uuspool", "x", 10, 10, "", "/", "/bin/sh"))):
-            self.check._check_accounts()
-        self.assertEqual(["There is no account uuspool", "The account uuspool has the shell /usr/sbin/nologin", f"{self.folder} belongs to user 12345"], [it.partition(",")[0] for it in self.said])
+        self.assertEqual(["There is no account uuspool", "The account uuspool has the shell /usr/sbin/nologin"], [it.partition(",")[0] for it in self.said])
+
+    def test_a_folder_whose_owner_has_no_account(self) -> None:
+        with mock.patch.object(self.check, "_missing_spool", return_value=""), mock.patch.object(check, "owner_of", return_value="12345"):
+            self.assertFalse(self.check.spool())
+        self.assertEqual([f"{self.folder} belongs to user 12345, who has no account: chown -R uucp {self.folder}"], self.said)
 
     def test_commands_that_run_as_nobody_known(self) -> None:
         self.put("etc/commands", "lp /bin/true user=nosuchuser\nrmail /bin/true limit=x\n")
