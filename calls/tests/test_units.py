@@ -42,7 +42,7 @@ class Units(unittest.TestCase):
 
     def test_a_purge_takes_the_page(self) -> None:
         with open(f"{TOP}/examples/uuspool-page.service", encoding="utf-8") as unit, open(f"{TOP}/packaging/postrm", encoding="utf-8") as script:
-            self.assertIn(f"rm -rf /var/log/uuspool /var/lib/{re.findall('(?m)^StateDirectory=(.*)$', unit.read())[0]} ", script.read())
+            self.assertIn(f"    take_away /var/log/uuspool /var/lib/{re.findall('(?m)^StateDirectory=(.*)$', unit.read())[0]} ", script.read())
 
     def test_a_mailer_delivers_to_homes(self) -> None:
         for name in RUN_MAILERS:
@@ -57,6 +57,49 @@ class Units(unittest.TestCase):
         for name in "night", "expire", "metrics":
             with open(f"{TOP}/examples/uuspool-{name}.service", encoding="utf-8") as file:
                 self.assertIn(f"\nSuccessExitStatus={status}\n", file.read(), name)
+
+
+class Purged(Folder):
+    """What postrm does, below a folder."""
+
+    def purge(self, **variables: str) -> tuple[int, str]:
+        """Its status, and what it says."""
+        with open(f"{TOP}/packaging/postrm", encoding="utf-8") as file:
+            text = re.sub(r"(?<![\w.-])/(?:var|etc|run)/", lambda it: f"{self.folder}{it[0]}", file.read())
+        self.put("bin/getent", "#!/bin/sh\necho uuspool:x:10:10::/var/lib/uuspool:/bin/sh\n", 0o755)
+        self.put("bin/userdel", "#!/bin/sh\n", 0o755)
+        path = self.put("postrm", text, 0o755)
+        ran = subprocess.run(["sh", path, "purge"], env={"PATH": f"{self.folder}/bin:/usr/bin:/bin", **variables}, stdout=subprocess.PIPE, stderr=subprocess.STDOUT, text=True, timeout=20)
+        return ran.returncode, ran.stdout.replace(f"{self.folder}/", "/")
+
+    def test_what_a_purge_leaves(self) -> None:
+        for path in "var/log/uuspool/log", "var/spool/uuspool/spool.db", "etc/uuspool/keys/duke", "var/lib/uuspool-page/index.html":
+            self.put(path)
+        self.assertEqual((0, "uuspool: the spool stays in /var/spool/uuspool\n"), self.purge())
+        self.assertEqual(["var/spool/uuspool/spool.db"], sorted(os.path.relpath(f"{at}/{it}", self.folder) for at, _, names in os.walk(f"{self.folder}/var") for it in names))
+        self.assertEqual((0, ""), self.purge(UUSPOOL_PURGE="yes"))
+        self.assertEqual([], os.listdir(f"{self.folder}/var/spool"))
+
+    def test_what_cannot_be_removed_fails_no_purge(self) -> None:
+        for path in "var/log/uuspool/log", "var/spool/uuspool/spool.db", "etc/uuspool/calls/duke":
+            self.put(path)
+        self.put("bin/rm", "#!/bin/sh\ncase \"$*\" in *log*) exec 2>&1; echo busy; /bin/rm \"$@\"; exit 1 ;; esac\nexec /bin/rm \"$@\"\n", 0o755)
+        status, said = self.purge(UUSPOOL_PURGE="yes")
+        self.assertEqual((0, "busy\nuuspool: not all of these could be removed: /var/log/uuspool"), (status, said.partition(" /var/lib")[0]))
+        self.assertEqual(([], []), (os.listdir(f"{self.folder}/var/spool"), os.listdir(f"{self.folder}/etc/uuspool")))
+
+    def test_what_is_mounted_stays(self) -> None:
+        self.put("etc/uuspool/calls/duke")
+        place = f"{self.folder}/var/log/uuspool/below"
+        os.makedirs(place)
+        if os.geteuid() or subprocess.run(["mount", "-t", "tmpfs", "none", place], stderr=subprocess.DEVNULL).returncode:
+            self.skipTest("no mount can be made")
+        try:
+            self.put("var/log/uuspool/below/mail")
+            status, said = self.purge()
+            self.assertEqual((0, True, ["mail"]), (status, "not all of these" in said, os.listdir(place)))
+        finally:
+            subprocess.run(["umount", place], check=True)
 
 
 ROTATED = "/var/log/uuspool"

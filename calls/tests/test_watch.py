@@ -79,7 +79,7 @@ class Gathered(Folder):
         found = Settings("mysite", "", "", f"{self.folder}/spool.db", "", "UTC0")
         with self.assertRaisesRegex(Failure, "the spool cannot be asked: uuspool: x is missing"):
             figures.gather(found, lambda *words, joined=False: Ended(3, b"uuspool: x is missing\n", b""))
-        for line in "$(id) 9 0 failed 2026-11-28 10:00:00 x", "d;id 0 0 never", "duke 0", "duke x 0 never", "-x 0 0 never", "":
+        for line in "$(id) 9 0 failed 2026-11-28 10:00:00 x", "d;id 0 0 never", "duke 0", "duke x 0 never", "-x 0 0 never", "duke 1 1 done 99999999999-01-01 00:00:00", "":
             with self.assertRaisesRegex(Failure, "^uuspool printed something else than systems: try again, and see what else"):
                 figures.gather(found, lambda *words, joined=False: Ended(0, f"{STATUS}{line}\n".encode(), b""))
 
