@@ -177,6 +177,27 @@ class Carriers(Folder):
             with self.assertRaisesRegex(Failure, why):
                 its._public_key()
 
+    def test_the_keys_of_those_who_call_here(self) -> None:
+        self.put_program()
+        self.session.program = f"{self.folder}/bin/uuspool"
+        for path in "s/a b.db", "uuspool.toml":
+            self.put(path, "x")
+        home = self.session.environment["UUSPOOL_HOME"] = f"{self.folder}/home"
+        its, keys = setup.Setup(self.session, "duke"), f"{home}/.ssh/authorized_keys"
+        if os.geteuid():
+            self.skipTest("only root makes accounts")
+        with mock.patch.object(pwd, "getpwnam", return_value=pwd.getpwuid(0)):
+            its.add_key("ssh-ed25519", "AAAA")
+            before = files.read_bytes(keys)
+            self.assertRegex(before or b"", b'^command="[^"]*/uuspool-answer duke",restrict ssh-ed25519 AAAA duke\n$')
+            for path in home, f"{home}/.ssh":
+                for change, undo in (lambda: self.give(path), lambda: os.chown(path, 0, 0)), (lambda: os.chmod(path, 0o775), lambda: os.chmod(path, 0o755)):
+                    change()
+                    with self.assertRaisesRegex(Failure, f"^{path} is not root's alone to write"):
+                        its.add_key("ssh-ed25519", "BBBB")
+                    self.assertEqual(before, files.read_bytes(keys))
+                    undo()
+
     def test_bundles_in_a_folder(self) -> None:
         session = Quiet(self.folder)
         shared = folder.Folder(session, os.open(self.folder, os.O_RDONLY), self.folder, "duke", [])

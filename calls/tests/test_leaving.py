@@ -10,46 +10,118 @@ from .standins import Folder, Quiet
 OWNER = pwd.getpwuid(1).pw_name
 
 
+def account(name: str, home: str, number: int = 1) -> pwd.struct_passwd:
+    return pwd.struct_passwd((name, "x", number, number, "", home, "/bin/sh"))
+
+
 class Leaving(Folder):
-    def found(self, has_sessions: bool = True) -> list[str]:
-        """What is said of the user OWNER."""
+    def setUp(self) -> None:
+        super().setUp()
+        os.chmod(self.folder, 0o755)
+        self.accounts = [account(OWNER, "/")]
+
+    def found(self) -> list[str]:
+        """What is said of the user OWNER, behind what each sentence has first."""
         session = Quiet(self.folder, PATH=f"{self.folder}/bin:{os.environ['PATH']}")
         schedulers = [leaving.Scheduler(it.name, f"{self.folder}/{it.name}.allow", f"{self.folder}/{it.name}.deny") for it in leaving.SCHEDULERS]
-        with mock.patch.multiple(leaving, _ALIASES=f"{self.folder}/aliases", SCHEDULERS=schedulers):
-            return [it.replace(f"{self.folder}/", "").replace(OWNER, "OWNER").rpartition("night: ")[2] for it in leaving.sentences(session, OWNER, has_sessions)]
+        its = {"_ALIASES": f"{self.folder}/aliases", "_SCOPE": f"{self.folder}/scope", "SCHEDULERS": schedulers}
+        with mock.patch.multiple(leaving, **its), mock.patch.object(pwd, "getpwall", return_value=self.accounts):
+            said = [*leaving.sentences(session, OWNER)]
+        self.assertEqual([], [it for it in said if "a neighbour's command leaves the unit uuspool-night" not in it])
+        return [it.replace(f"{self.folder}/", "").replace(OWNER, "OWNER") for it in said]
 
-    def systemctl(self, state: str) -> None:
-        self.put("bin/systemctl", f"#!/bin/sh\n[ \"$*\" = 'is-enabled user@1.service' ] && echo {state}\n", 0o755)
+    def ends(self) -> list[str]:
+        """What each says to do."""
+        return [it.rpartition("night: ")[2] for it in self.found()]
+
+    def systemctl(self, state: str, active: str = "inactive") -> None:
+        asked = f'case "$*" in "is-enabled user@1.service") echo {state} ;; "is-active user@1.service") echo {active} ;; esac'
+        self.put("bin/systemctl", f"#!/bin/sh\n{asked}\n", 0o755)
+
+    def home(self, name: str, owner: int = 0, mode: int = 0o755) -> str:
+        """A folder of this user's."""
+        os.makedirs(f"{self.folder}/{name}", exist_ok=True)
+        os.chmod(f"{self.folder}/{name}", mode)
+        if owner:
+            self.give(f"{self.folder}/{name}")
+        return f"{self.folder}/{name}"
 
     def test_the_manager_of_the_user(self) -> None:
-        line = "systemctl mask user@1.service"
+        """Also without a session of this user's, since logind lets each command ask for the manager."""
+        line = "systemctl mask --now user@1.service"
         for state, found in ("static", [line]), ("enabled", [line]), ("masked", []), ("masked-runtime", []), ("not-found", []), ("", []):
             self.systemctl(state)
-            self.assertEqual(found, [it for it in self.found() if "mask" in it], state)
-        self.systemctl("static")
-        self.assertEqual([], [it for it in self.found(has_sessions=False) if "mask" in it])
+            self.assertEqual(found, self.ends(), state)
+        self.systemctl("masked", "active")
+        self.assertEqual(["systemctl stop user@1.service"], self.ends())
 
-    def test_a_file_of_the_mailer(self) -> None:
+    def test_homes_that_the_user_may_write(self) -> None:
         self.systemctl("masked")
-        line = "add the line 'OWNER: root' to aliases, and run newaliases."
-        for text, found in ("", [line]), (f"#{OWNER}: x\n", [line]), (f"x: y\n{OWNER.upper()} : x\n", []):
+        self.accounts += [account("unc", self.home("of-unc", 1)), account("ann", self.home("of-ann", mode=0o777), 2), account("phs", f"{self.home('made', 1)}/missing")]
+        said = self.found()
+        self.assertEqual(["OWNER may write of-unc", "OWNER may write made"], [it.partition(",")[0] for it in said])
+        self.assertIn("type usermod -d / unc, and", said[0])
+        self.assertIn("files in made/missing, the home of the account phs", said[1])
+        os.chown(f"{self.folder}/of-unc", 0, 0)
+        os.chown(f"{self.folder}/made", 0, 0)
+        self.assertEqual([], self.found())
+
+    def test_a_home_behind_a_link(self) -> None:
+        self.systemctl("masked")
+        os.symlink(self.home("far", 1), f"{self.folder}/near")
+        self.accounts.append(account("unc", f"{self.folder}/near"))
+        self.assertIn("OWNER may write near, and", self.found()[0])
+        os.symlink(f"{self.home('of-root')}", f"{self.folder}/far/below")
+        self.accounts[-1] = account("unc", f"{self.folder}/far/below")
+        self.assertIn("OWNER may write far, and", self.found()[0])
+
+    def test_what_is_read_at_a_home_of_roots(self) -> None:
+        self.systemctl("masked")
+        home = self.home("home")
+        self.accounts += [account("uuspool", home), account("unc", home)]
+        for name in ".ssh", ".config/systemd/user", ".forward":
+            self.home(f"home/{name}", 1) if name != ".forward" else self.give(self.put("home/.forward"))
+            said = self.found()
+            self.assertEqual([f"OWNER may write home/{name}"] * 2, [it.partition(",")[0] for it in said], name)
+            self.assertEqual([], [it for it in said if "usermod" in it])
+            os.chown(f"{home}/{name}", 0, 0)
+        self.assertEqual([], self.found())
+        self.give(home)
+        uuspool, unc = self.found()
+        self.assertNotIn("usermod", uuspool)
+        self.assertIn("usermod -d / unc", unc)
+
+    def test_what_the_aliases_of_a_mailer_use(self) -> None:
+        self.systemctl("masked")
+        ours, roots = self.home("ours", 1), self.home("roots")
+        for text, found in (
+            (f"x: y\n#z: {ours}/a\nOWNER: root\n", []),
+            (f"news: \"|{roots}/a -x\", joe\n", []),
+            (f"news: \"|{ours}/a -x\", joe\n", [f"{ours}/a"]),
+            (f"x:joe,\n  :include:{ours}/list\nb: {ours}/box,|{ours}/prog\n", [f"{ours}/list", f"{ours}/box", f"{ours}/prog"]),
+        ):
             self.put("aliases", text)
-            self.assertEqual(found, [it for it in self.found() if "alias" in it], text)
-        os.remove(f"{self.folder}/aliases")
-        self.assertEqual([], [it for it in self.found() if "alias" in it])
+            self.assertEqual([it.replace(f"{self.folder}/", "") for it in found], [it.split()[3].strip(",") for it in self.found()], text)
+
+    def test_who_may_enter_other_processes(self) -> None:
+        self.systemctl("masked")
+        line = "sysctl -w kernel.yama.ptrace_scope=1, and let a file in /etc/sysctl.d say kernel.yama.ptrace_scope = 1."
+        for text, found in ("0\n", [line]), ("1\n", []), ("3\n", []):
+            self.put("scope", text)
+            self.assertEqual(found, self.ends(), text)
 
     def test_who_may_schedule(self) -> None:
         self.systemctl("masked")
         for name in "crontab", "at":
             self.put(f"bin/{name}", "#!/bin/sh\n", 0o755)
-        self.assertEqual(["write the line OWNER into crontab.deny."], self.found())
+        self.assertEqual(["write the line OWNER into crontab.deny."], self.ends())
         for text, end in (OWNER, []), ("x", ["add the line OWNER to {}.deny."]):
             for name in "crontab", "at":
                 self.put(f"{name}.deny", f"y\n{text}\n")
-            self.assertEqual([it.format(name) for name in ("crontab", "at") for it in end], self.found())
+            self.assertEqual([it.format(name) for name in ("crontab", "at") for it in end], self.ends())
         self.put("crontab.allow", "x\n")
         self.put("at.allow", f"{OWNER}\n")
-        self.assertEqual(["take the line OWNER out of at.allow."], self.found())
+        self.assertEqual(["take the line OWNER out of at.allow."], self.ends())
 
     def test_only_what_a_unit_confines_leaves_one(self) -> None:
         looks = check.Check(Quiet(self.folder))

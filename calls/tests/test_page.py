@@ -90,6 +90,16 @@ class Pages(Folder):
         self.assertEqual([("ann", "duke", "exec lp", "unknown"), ("ann", "duke", big, "too old"), ("unc!joe", "mysite", big, "no room")], found)
         self.assertLessEqual({"7", "9"}, {number for number, *_ in refused_in(f"{self.folder}/refused")})
 
+    def test_an_old_log_with_a_date(self) -> None:
+        line = "2026-11-28 {:02}:00:00 duke ann - done done duke\n"
+        log = self.put("log", line.format(12))
+        for name, hour in ("log-20261127", 9), ("log-20261128", 10), ("log-20261128.gz", 8), ("log-202611289", 8), ("log.1", 11):
+            self.put(name, line.format(hour))
+        for earlier, hour in ("log.1", "11"), ("log-20261128", "10"), ("log-20261127", "09"):
+            self.assertEqual([f"{hour}:00:00", "12:00:00"], [it[1] for it in log_of(log, "2026-11-28")], earlier)
+            os.remove(f"{self.folder}/{earlier}")
+        self.assertEqual(["12:00:00"], [it[1] for it in log_of(log, "2026-11-28")])
+
     def test_a_log_with_holes_and_torn_lines(self) -> None:
         line = "2026-11-28 12:00:00 duke ann - done done duke\n"
         log = self.put("log", f"2026-11-28 12:0\0\0 duke ann - done done duke\n2026-11-28 12:00 duke ann - done done\n{line}")

@@ -1,8 +1,18 @@
 """The units of the package, and its scripts."""
 import glob
 import os
+import pwd
 import re
+import shutil
+import subprocess
 import unittest
+from unittest import mock
+
+from uuspool_calls import check, cli, files, units
+from uuspool_calls.errors import Stopped
+from uuspool_calls.processes import kill_group
+
+from .standins import Folder, Quiet
 
 TOP = os.path.dirname(os.path.dirname(os.path.dirname(os.path.realpath(__file__))))
 RUN_MAILERS = {"uuspool-night.service", "uuspool-expire.service"}
@@ -32,9 +42,168 @@ class Units(unittest.TestCase):
 
     def test_a_purge_takes_the_page(self) -> None:
         with open(f"{TOP}/examples/uuspool-page.service", encoding="utf-8") as unit, open(f"{TOP}/packaging/postrm", encoding="utf-8") as script:
-            self.assertIn(f"rm -rf /var/log/uuspool /var/lib/{re.findall('(?m)^StateDirectory=(.*)$', unit.read())[0]} ", script.read())
+            self.assertIn(f"    take_away /var/log/uuspool /var/lib/{re.findall('(?m)^StateDirectory=(.*)$', unit.read())[0]} ", script.read())
 
     def test_a_mailer_delivers_to_homes(self) -> None:
         for name in RUN_MAILERS:
             with open(f"{TOP}/examples/{name}", encoding="utf-8") as file:
                 self.assertEqual([], re.findall("(?m)^(?:ProtectHome|ProtectSystem=strict).*", file.read()), name)
+
+    def test_a_stop_is_no_failure(self) -> None:
+        def stopped(session: object, words: object) -> int:
+            raise Stopped
+
+        status = cli.run(Quiet("/"), stopped, [])
+        for name in "night", "expire", "metrics":
+            with open(f"{TOP}/examples/uuspool-{name}.service", encoding="utf-8") as file:
+                self.assertIn(f"\nSuccessExitStatus={status}\n", file.read(), name)
+
+
+class Purged(Folder):
+    """What postrm does, below a folder."""
+
+    def purge(self, **variables: str) -> tuple[int, str]:
+        """Its status, and what it says."""
+        with open(f"{TOP}/packaging/postrm", encoding="utf-8") as file:
+            text = re.sub(r"(?<![\w.-])/(?:var|etc|run)/", lambda it: f"{self.folder}{it[0]}", file.read())
+        self.put("bin/getent", "#!/bin/sh\necho uuspool:x:10:10::/var/lib/uuspool:/bin/sh\n", 0o755)
+        self.put("bin/userdel", "#!/bin/sh\n", 0o755)
+        path = self.put("postrm", text, 0o755)
+        ran = subprocess.run(["sh", path, "purge"], env={"PATH": f"{self.folder}/bin:/usr/bin:/bin", **variables}, stdout=subprocess.PIPE, stderr=subprocess.STDOUT, text=True, timeout=20)
+        return ran.returncode, ran.stdout.replace(f"{self.folder}/", "/")
+
+    def test_what_a_purge_leaves(self) -> None:
+        for path in "var/log/uuspool/log", "var/spool/uuspool/spool.db", "etc/uuspool/keys/duke", "var/lib/uuspool-page/index.html":
+            self.put(path)
+        self.assertEqual((0, "uuspool: the spool stays in /var/spool/uuspool\n"), self.purge())
+        self.assertEqual(["var/spool/uuspool/spool.db"], sorted(os.path.relpath(f"{at}/{it}", self.folder) for at, _, names in os.walk(f"{self.folder}/var") for it in names))
+        self.assertEqual((0, ""), self.purge(UUSPOOL_PURGE="yes"))
+        self.assertEqual([], os.listdir(f"{self.folder}/var/spool"))
+
+    def test_what_cannot_be_removed_fails_no_purge(self) -> None:
+        for path in "var/log/uuspool/log", "var/spool/uuspool/spool.db", "etc/uuspool/calls/duke":
+            self.put(path)
+        self.put("bin/rm", "#!/bin/sh\ncase \"$*\" in *log*) exec 2>&1; echo busy; /bin/rm \"$@\"; exit 1 ;; esac\nexec /bin/rm \"$@\"\n", 0o755)
+        status, said = self.purge(UUSPOOL_PURGE="yes")
+        self.assertEqual((0, "busy\nuuspool: not all of these could be removed: /var/log/uuspool"), (status, said.partition(" /var/lib")[0]))
+        self.assertEqual(([], []), (os.listdir(f"{self.folder}/var/spool"), os.listdir(f"{self.folder}/etc/uuspool")))
+
+    def test_what_is_mounted_stays(self) -> None:
+        self.put("etc/uuspool/calls/duke")
+        place = f"{self.folder}/var/log/uuspool/below"
+        os.makedirs(place)
+        if os.geteuid() or subprocess.run(["mount", "-t", "tmpfs", "none", place], stderr=subprocess.DEVNULL).returncode:
+            self.skipTest("no mount can be made")
+        try:
+            self.put("var/log/uuspool/below/mail")
+            status, said = self.purge()
+            self.assertEqual((0, True, ["mail"]), (status, "not all of these" in said, os.listdir(place)))
+        finally:
+            subprocess.run(["umount", place], check=True)
+
+
+ROTATED = "/var/log/uuspool"
+LOG = "2026-11-28 10:00:00 duke ann 7 done send\n"
+
+
+class Rotated(Folder):
+    """The package's lines for logrotate, below lines of the machine that have old logs compressed."""
+
+    def setUp(self) -> None:
+        super().setUp()
+        if os.geteuid() or not shutil.which("logrotate", path="/usr/sbin"):
+            self.skipTest("logrotate is not here, or this is not root")
+        os.chmod(self.folder, 0o755)
+        self.logs = f"{self.folder}/logs"
+        for path in self.logs, f"{self.folder}/old":
+            os.mkdir(path)
+            shutil.chown(path, "uucp", "uucp")
+        with open(f"{TOP}/packaging/logrotate", encoding="utf-8") as file:
+            text = file.read()
+        self.assertIn(f"{ROTATED}/log {{", text)
+        self.put("package", text.replace(ROTATED, self.logs))
+        self.ours("log", LOG)
+
+    def ours(self, name: str, text: str) -> None:
+        shutil.chown(self.put(f"logs/{name}", text), "uucp")
+
+    def rotate(self, machine: str = "") -> None:
+        """Rotates, with these lines of the machine before."""
+        self.put("conf", f"compress\n{machine}\ninclude {self.folder}/package\n")
+        line = ["/usr/sbin/logrotate", "-f", "-s", f"{self.folder}/state", f"{self.folder}/conf"]
+        with subprocess.Popen(line, start_new_session=True) as process:
+            try:
+                self.assertEqual(0, process.wait(20))
+            finally:
+                kill_group(process.pid)
+
+    def test_old_logs_are_where_uulog_reads_them(self) -> None:
+        self.rotate(f"dateext\nstart 0\nolddir {self.folder}/old")
+        self.assertEqual(["log", "log.1"], sorted(os.listdir(self.logs)))
+        self.assertEqual(LOG.encode(), self.bytes_of("logs/log.1"))
+        its = os.stat(f"{self.logs}/log")
+        self.assertEqual((0o600, "uucp"), (its.st_mode & 0o777, pwd.getpwuid(its.st_uid).pw_name))
+
+    def test_a_pipe_holds_up_no_rotation(self) -> None:
+        for name in "log.1", "log.2", "log.4":
+            os.mkfifo(f"{self.logs}/{name}")
+            shutil.chown(f"{self.logs}/{name}", "uucp")
+        self.rotate()
+        self.assertEqual(LOG.encode(), files.read_bytes(f"{self.logs}/log.1"))
+
+    def test_a_link_leads_to_no_file_of_roots(self) -> None:
+        victim = self.put("victim", "root's")
+        for name in "log.1", "log":
+            self.ours(name, LOG)
+            os.remove(f"{self.logs}/{name}")
+            os.symlink(victim, f"{self.logs}/{name}")
+        self.rotate()
+        self.assertEqual(b"root's", self.bytes_of("victim"))
+
+
+ENABLED = {"LoadState": "loaded", "UnitFileState": "enabled", "ActiveState": "active", "SubState": "running", "Result": "success"}
+
+
+class Watched(Folder):
+    """What uuspool-check says of units."""
+
+    def found(self, **units_of: dict[str, str]) -> list[str]:
+        """What is said if systemd knows these units, with these values beside those of one that runs."""
+        parts = [{"Id": f"uuspool-{name.replace('_', '.')}", **ENABLED, **values} for name, values in units_of.items()]
+        text = "\n\n".join("\n".join(f"{key}={value}" for key, value in it.items()) for it in parts)
+        self.put("bin/systemctl", f"#!/bin/sh\n[ \"$1\" = show ] || exit\ncat <<'END'\n{text}\nEND\n", 0o755)
+        return [*units.sentences(Quiet(self.folder, PATH=f"{self.folder}/bin:{os.environ['PATH']}"))]
+
+    def test_what_runs_or_need_not(self) -> None:
+        self.assertEqual([], self.found(night_service={}, page_timer={}, page_service={"ActiveState": "inactive", "SubState": "dead"}))
+        off = {"UnitFileState": "disabled", "ActiveState": "failed", "SubState": "failed"}
+        self.assertEqual([], self.found(night_service=off, expire_timer=off, expire_service=off))
+        self.assertEqual([], self.found())
+
+    def test_the_night(self) -> None:
+        for active, sub, begins in (
+            ("failed", "failed", "uuspool-night.service failed (exit-code), so no neighbour is called: journalctl"),
+            ("inactive", "dead", "uuspool-night.service is enabled, but does not run, so no neighbour is called: systemctl start uuspool-night.service"),
+            ("activating", "auto-restart", "uuspool-night.service fails again and again (exit-code): journalctl"),
+        ):
+            found = self.found(night_service={"ActiveState": active, "SubState": sub, "Result": "exit-code"})
+            self.assertEqual([begins], [it[: len(begins)] for it in found])
+
+    def test_timers(self) -> None:
+        stopped, failed = {"ActiveState": "inactive", "SubState": "dead"}, {"ActiveState": "failed", "Result": "timeout"}
+        for name in "backup", "expire", "metrics", "page":
+            said = self.found(**{f"{name}_timer": stopped, f"{name}_service": stopped})
+            self.assertEqual([f"uuspool-{name}.timer is enabled, but does not run, so nothing starts uuspool-{name}.service: systemctl restart uuspool-{name}.timer"], said)
+            said = self.found(**{f"{name}_timer": {}, f"{name}_service": failed})
+            self.assertEqual([f"uuspool-{name}.service failed when it ran last (timeout)"], [it.partition(":")[0] for it in said])
+            said = self.found(**{f"{name}_timer": {}, f"{name}_service": {"LoadState": "masked", "UnitFileState": "masked"}})
+            self.assertEqual([f"uuspool-{name}.service is masked, so uuspool-{name}.timer starts nothing"], [it.partition(":")[0] for it in said])
+
+    def test_a_check_says_so(self) -> None:
+        looks = check.Check(Quiet(self.folder))
+        others = {name: mock.Mock() for name in ("_check_zone", "_check_accounts", "_check_login", "_check_su", "_runs_nights")}
+        for has_systemd in True, False:
+            with mock.patch.multiple(check.Check, _has_systemd=lambda looks: has_systemd, _has_unit=lambda looks: False, **others), mock.patch.object(units, "sentences", return_value=["it failed"]):
+                looks.machine()
+            self.assertEqual(has_systemd, "it failed" in looks._session.printed)
+            looks._session.printed.clear()

@@ -79,7 +79,7 @@ class Gathered(Folder):
         found = Settings("mysite", "", "", f"{self.folder}/spool.db", "", "UTC0")
         with self.assertRaisesRegex(Failure, "the spool cannot be asked: uuspool: x is missing"):
             figures.gather(found, lambda *words, joined=False: Ended(3, b"uuspool: x is missing\n", b""))
-        for line in "$(id) 9 0 failed 2026-11-28 10:00:00 x", "d;id 0 0 never", "duke 0", "duke x 0 never", "-x 0 0 never", "":
+        for line in "$(id) 9 0 failed 2026-11-28 10:00:00 x", "d;id 0 0 never", "duke 0", "duke x 0 never", "-x 0 0 never", "duke 1 1 done 99999999999-01-01 00:00:00", "":
             with self.assertRaisesRegex(Failure, "^uuspool printed something else than systems: try again, and see what else"):
                 figures.gather(found, lambda *words, joined=False: Ended(0, f"{STATUS}{line}\n".encode(), b""))
 
@@ -251,10 +251,12 @@ class Checked(Folder):
             self.check._check_accounts()
         with mock.patch("pwd.getpwnam", return_value=pwd.struct_passwd(("uuspool", "x", 10, 10, "", "/", "/usr/sbin/nologin"))):
             self.check._check_accounts()
-        self.check._owner = "12345"
-        with mock.patch("pwd.getpwnam", return_value=pwd.struct_passwd(("uuspool", "x", 10, 10, "", "/", "/bin/sh"))):
-            self.check._check_accounts()
-        self.assertEqual(["There is no account uuspool", "The account uuspool has the shell /usr/sbin/nologin", f"{self.folder} belongs to user 12345"], [it.partition(",")[0] for it in self.said])
+        self.assertEqual(["There is no account uuspool", "The account uuspool has the shell /usr/sbin/nologin"], [it.partition(",")[0] for it in self.said])
+
+    def test_a_folder_whose_owner_has_no_account(self) -> None:
+        with mock.patch.object(self.check, "_missing_spool", return_value=""), mock.patch.object(check, "owner_of", return_value="12345"):
+            self.assertFalse(self.check.spool())
+        self.assertEqual([f"{self.folder} belongs to user 12345, who has no account: chown -R uucp {self.folder}"], self.said)
 
     def test_commands_that_run_as_nobody_known(self) -> None:
         self.put("etc/commands", "lp /bin/true user=nosuchuser\nrmail /bin/true limit=x\n")

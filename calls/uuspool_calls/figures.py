@@ -79,7 +79,7 @@ def gather(found: Settings, ask: _Ask, owner: str = "") -> Figures:
     try:
         with acting_as(owner):
             return _figures(found, status, queues)
-    except ValueError:
+    except (ValueError, OverflowError):
         raise Failure(LATER, _ODD) from None
 
 

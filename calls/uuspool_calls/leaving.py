@@ -1,16 +1,23 @@
 """By what a neighbour's command leaves the unit of uuspool-night, which confines it: other services that run what the spool's
-user says."""
+user says, files that they read for this user, and other processes of this user."""
 import os
 import pwd
 import re
-from collections.abc import Iterator
+import stat
+from collections.abc import Iterator, Sequence
 
 from . import files
-from .session import Session, user_name
+from .session import Session, acting_as, user_name
 from .values import NamedTuple
 
-_ALIASES = "/etc/aliases"  # of the mailer
 _UNIT = "the unit uuspool-night"
+_LEAVES = f"by that a neighbour's command leaves {_UNIT}"
+_ALIASES = "/etc/aliases"  # of the mailer
+_PATHS = re.compile(r'(?<![^\s|:,"])/[^\s,"|]*')  # in a line of it: what it runs, writes or reads
+_SCOPE = "/proc/sys/kernel/yama/ptrace_scope"
+_CALLED = "uuspool"  # the account that neighbours call by ssh, whose keys are in its home
+# What sshd, mailers, logins and systemd read there.
+_READ_AT_HOME = ".ssh", ".ssh/authorized_keys", ".ssh/rc", ".forward", ".profile", ".config", ".config/systemd", ".config/systemd/user"
 
 
 class Scheduler(NamedTuple):
@@ -34,26 +41,77 @@ class Scheduler(NamedTuple):
 SCHEDULERS = Scheduler("crontab", "/etc/cron.allow", "/etc/cron.deny"), Scheduler("at", "/etc/at.allow", "/etc/at.deny")
 
 
-def sentences(session: Session, owner: str, has_sessions: bool) -> Iterator[str]:
-    """What to do about each. (`has_sessions` says whether sshd or login begin sessions as the spool's user.)"""
-    entry = pwd.getpwnam(owner)
-    unit = f"user@{entry.pw_uid}.service"
-    if has_sessions and _state(session, unit) not in ("", "masked", "masked-runtime", "not-found"):
-        yield f"By a neighbour's call systemd begins {unit}, and by that a neighbour's command leaves {_UNIT}: systemctl mask {unit}"
-    aliases = files.read_bytes(_ALIASES)
-    if aliases is not None and not re.search(rf"(?mi)^\s*{re.escape(owner)}\s*:", aliases.decode(errors="replace")):
-        yield (
-            f"A mailer may run what {entry.pw_dir}/.forward says, and by that a neighbour's command leaves {_UNIT}: "
-            f"add the line '{owner}: root' to {_ALIASES}, and run newaliases."
-        )
+def sentences(session: Session, owner: str) -> Iterator[str]:
+    """What to do about each."""
+    yield from _of_the_manager(session, f"user@{pwd.getpwnam(owner).pw_uid}.service")
+    with acting_as(owner):
+        found = [*_of_homes(owner), *_of_aliases(owner)]
+    yield from found
     for scheduler in SCHEDULERS:
         if session.finds(scheduler.name) and (cure := scheduler.cure(owner)):
-            yield f"{owner} may use {scheduler.name}, and by that a neighbour's command leaves {_UNIT}: {cure}."
+            yield f"{owner} may use {scheduler.name}, and {_LEAVES}: {cure}."
+    if (files.read_bytes(_SCOPE) or b"").strip() == b"0":
+        yield (
+            f"Each process of {owner} may enter another one, such as one that sshd, cron or root began, and {_LEAVES}: "
+            "sysctl -w kernel.yama.ptrace_scope=1, and let a file in /etc/sysctl.d say kernel.yama.ptrace_scope = 1."
+        )
 
 
-def _state(session: Session, unit: str) -> str:
-    ended = session.run_as(user_name(os.geteuid()), ["systemctl", "is-enabled", unit])
+def _of_the_manager(session: Session, unit: str) -> Iterator[str]:
+    """systemd runs what the user says, once a session of this user begins, or the user asks for it, which logind lets everybody."""
+    state = _asked(session, "is-enabled", unit)
+    if state not in ("", "masked", "masked-runtime", "not-found"):
+        yield f"systemd begins {unit} by a neighbour's call, or if a command asks for it (loginctl enable-linger), and {_LEAVES}: systemctl mask --now {unit}"
+    elif state.startswith("masked") and _asked(session, "is-active", unit) == "active":
+        yield f"{unit} is masked, but runs still, and {_LEAVES}: systemctl stop {unit}"
+
+
+def _asked(session: Session, word: str, unit: str) -> str:
+    ended = session.run_as(user_name(os.geteuid()), ["systemctl", word, unit])
     return ended.output.decode(errors="replace").strip()
+
+
+def _of_homes(owner: str) -> Iterator[str]:
+    """The homes of the accounts that are this user."""
+    number = pwd.getpwnam(owner).pw_uid
+    for entry in pwd.getpwall():
+        home = os.path.normpath(entry.pw_dir)
+        if entry.pw_uid != number or not home.startswith("/"):
+            continue
+        name, reads = entry.pw_name, f"sshd, mailers and logins read files in {home}, the home of the account {entry.pw_name}"
+        if (place := _first_writable([home])) and name != _CALLED:
+            yield f"{owner} may write {place}, and {reads}: {_LEAVES}. Stop uuspool-night, type usermod -d / {name}, and start it again."
+        elif place := place or _first_writable([f"{home}/{it}" for it in _READ_AT_HOME]):
+            yield f"{owner} may write {place}, and {reads}: {_LEAVES}. Move it away as root, and have uuspool-setup or an editor of root's make it anew."
+
+
+def _of_aliases(owner: str) -> Iterator[str]:
+    """The programs, files and lists of the mailer's aliases, also of other names, to which a command may send mail."""
+    text = (files.read_bytes(_ALIASES) or b"").decode(errors="replace")
+    lines = [line for line in text.splitlines() if not line.startswith("#")]
+    for path in dict.fromkeys(found for line in lines for found in _PATHS.findall(line)):
+        if place := _first_writable([path]):
+            yield f"A mailer uses {path}, as {_ALIASES} says, and {owner} may write {place}: {_LEAVES}. Take {path} out of {_ALIASES}, and run newaliases."
+
+
+def _first_writable(paths: Sequence[str]) -> str:
+    """The first of these paths, or of the folders on their ways, that this process may write, or replace in a folder that it may
+    write. Nothing if there is none."""
+    for path in paths:
+        for way in dict.fromkeys((path, os.path.realpath(path))):
+            parts = way.split("/")
+            for end in range(1, len(parts) + 1):
+                place = "/".join(parts[:end]) or "/"
+                if os.access(place, os.W_OK, effective_ids=True) and not _holds(place, parts[end : end + 1]):
+                    return place
+    return ""
+
+
+def _holds(folder: str, names: Sequence[str]) -> bool:
+    """Whether nobody but its owner, who is another user, replaces what has the name in a folder, as in /tmp."""
+    its, below = files.look(folder), [files.look(f"{folder}/{name}", follows=False) for name in names]
+    is_sticky = its is not None and its.st_mode & stat.S_ISVTX and its.st_uid != os.geteuid()
+    return bool(is_sticky) and any(seen is not None and seen.st_uid != os.geteuid() for seen in below)
 
 
 def _lines(text: bytes) -> list[str]:

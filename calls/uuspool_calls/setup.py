@@ -272,6 +272,10 @@ class Setup:
             os.makedirs(f"{home}/.ssh", exist_ok=True)
         except OSError as error:
             raise Failure(LATER, f"cannot write below {home}: {error.strerror}") from None
+        for path in home, f"{home}/.ssh":
+            seen = os.stat(path)
+            if seen.st_uid or seen.st_mode & 0o022:
+                raise Failure(LATER, f"{path} is not root's alone to write, so others choose who may call here: move it away, and run this line again")
 
 
 def _as_toml(value: Any) -> str:

@@ -14,7 +14,7 @@ from .. import clock as now_here
 from .. import files, settings
 from ..errors import Failure
 from ..processes import Program
-from ..session import Session
+from ..session import Session, acting_as, user_name
 from ..site import owner_of
 from ..spool import answers_in
 from ..texts import one_line
@@ -60,15 +60,18 @@ def _seconds(word: str) -> int:
 
 
 class _Batch:
-    """Asks the spool some lines at a time, by a batch of the program."""
+    """Asks the spool some lines at a time, by a batch of the program, which another user may run."""
 
-    def __init__(self, session: Session, options: Sequence[str]) -> None:
-        self._session, self._program = session, [session.program, *options, "batch"]
+    def __init__(self, session: Session, owner: str, words: Sequence[str]) -> None:
+        self._session, self._owner, self._words = session, owner, words
 
     def ask(self, questions: Sequence[str]) -> list[str]:
         """The answers."""
-        program = Program(self._program, "", self._session.environment, _LIMIT)
-        ended = self._session.processes.run(program, "".join(f"0 {words}\n" for words in questions).encode())
+        lines = "".join(f"0 {words}\n" for words in questions).encode()
+        if self._owner:
+            ended = self._session.run_as(self._owner, self._words, lines)
+        else:
+            ended = self._session.processes.run(Program(self._words, "", self._session.environment, _LIMIT), lines)
         answers = list(answers_in(ended.output))
         for words, answer in zip(questions, [*answers, *[None] * len(questions)]):
             if answer is None:
@@ -91,9 +94,9 @@ def _page(session: Session, given: argparse.Namespace) -> str:
         raise Failure(_WRONG if why.ended == _WRONG else _STREAMS, str(why).removeprefix("uuspool: ")) from None
     except Failure as why:
         raise Failure(_SPOOL, str(why)) from None
-    if os.geteuid() == 0:
-        owner_of(site)  # (which fails if somebody else's settings lead root to a site of root's)
-    ask = _Batch(session, options).ask
+    owner = _owner_of(site)
+    words = [session.program, *options, "batch"] if not owner else _words_of_owner(session, site, owner)
+    ask = _Batch(session, owner, words).ask
     answers = ask(["systems", "status", "queues", f"--at {now} when", "list"])
     clock = Clock(site.zone)
     try:
@@ -101,10 +104,27 @@ def _page(session: Session, given: argparse.Namespace) -> str:
         spool.date(ask, clock, now)
         _compare(clock, spool.told)
         today = f"{moment(clock.shown(now)):%Y-%m-%d}"
-        beside = Beside(site.folder, site.log, f"{session.etc}/calls", site.name, today)
+        with acting_as(owner):
+            beside = Beside(site.folder, site.log, f"{session.etc}/calls", site.name, today)
         return Page(site.name, spool, clock, now, beside).whole(given.r)
     except (ValueError, LookupError) as error:
         raise Failure(_SPOOL, f"an answer has another form than the page knows: {error}") from error
+
+
+def _owner_of(site: settings.Settings) -> str:
+    """The spool's user, as whom root looks at what this user may change meanwhile, such as a link that leads to a device. (Nobody
+    else looks as another user.)"""
+    owner = owner_of(site) if os.geteuid() == 0 else user_name(os.geteuid())
+    if owner.isdecimal():
+        raise Failure(_STREAMS, f"{site.folder} belongs to user {owner}, who has no account")
+    return owner if owner != user_name(os.geteuid()) else ""
+
+
+def _words_of_owner(session: Session, site: settings.Settings, owner: str) -> list[str]:
+    """The line by which the owner asks this site, whatever folder root is in."""
+    with acting_as(owner):
+        start = site.start if os.access(site.start, os.X_OK, effective_ids=True) else "/"
+    return ["env", "-C", start, session.program, "-c", site.path, "batch"]
 
 
 def _compare(clock: Clock, told: Sequence[tuple[int, str]]) -> None:

@@ -6,7 +6,7 @@ from collections.abc import Iterable, Iterator, Sequence
 from contextlib import suppress
 from typing import NamedTuple
 
-from ..files import read_end
+from ..files import names_in, read_end
 from ..pieces import FILE, UNTOLD
 from ..refusals import Kept, newest_first
 from .times import HOUR, MINUTE
@@ -45,12 +45,19 @@ def log_of(log: str, today: str) -> list[list[str]]:
     """The lines of this date in a log, or in the one before. At most the end of a long log is
     read. (A power cut may leave a line that isn't whole.)"""
     lines: list[str] = []
-    for name in log, f"{log}.1":
+    for name in log, earlier_of(log):
         lines = read_end(name, _READ_LOG).decode("ascii", errors="replace").splitlines() + lines
         if lines and not lines[0].startswith(today):
             break
     whole = re.compile(rf"{today} \d\d:\d\d:\d\d (\S+ ){{4}}")
     return [line.split(" ") for line in lines if whole.match(line)]
+
+
+def earlier_of(log: str) -> str:
+    """The log before this one: log.1, or the newest with a date, which other lines for logrotate than the package's make."""
+    folder, name = os.path.split(log)
+    dated = [it for it in names_in(folder) if re.fullmatch(rf"{re.escape(name)}-[0-9]{{8}}", it)]
+    return f"{folder}/{dated[-1]}" if dated and not os.path.isfile(f"{log}.1") else f"{log}.1"
 
 
 def calls_of(lines: Iterable[Sequence[str]], own: str) -> list[Made]:
