@@ -407,7 +407,7 @@ class HandedOn(Refused):
         self.put("etc/forward", "a unc phs\n")
         data = b"Subject: x\n\n" + bytes(2_000_000)
         length, file = 1 << 20, f"{hashlib.sha256(data).hexdigest()}.{len(data)}.{1 << 20}.m"
-        for addresses, hop in (("unc!joe", "unc!phs!eve"), ("joe", "phs!eve")), (("unc!joe", "phs!joe"), ()), (("joe",), ()):
+        for addresses, hop in (("unc!joe", "unc!phs!eve"), ("joe", "phs!eve")), (("mysite!unc!joe", "unc!bob"), ("joe", "bob")), (("unc!joe", "phs!joe"), ()), (("joe",), ()):
             self.spool.asked = []
             for at in range(0, len(data), length):
                 self.number += 1
@@ -425,9 +425,11 @@ class HandedOn(Refused):
 
     def test_an_address_that_is_an_option_at_the_next_hop(self) -> None:
         self.put("etc/forward", "a unc *\n")
-        self.spool.parcels[1] = parcel("1 mysite a!ann B 2026-11-28 10:00:00 5 exec rmail unc!joe unc!-oX")
-        self.assertEqual(0, self.deliverer.deliver(1))
-        self.assertRegex(self.log[0], "refused-for-good -oX, which is no user of unc, would be an option there")
+        whys = "-oX, which is no user of unc, would be an option there", "mysite lets no word of rmail begin with a hyphen: -oX"
+        for address, why in zip(("unc!-oX", "mysite!-oX"), whys):
+            self.spool.parcels[1] = parcel(f"1 mysite a!ann B 2026-11-28 10:00:00 5 exec rmail unc!joe {address}")
+            self.assertEqual(0, self.deliverer.deliver(1))
+            self.assertIn(f"refused-for-good {why}", self.log[-1])
         self.assertEqual([], [it for it in self.spool.asked if it[0] == "exec"])
 
     def test_mail_that_is_queued_again_is_the_same_file(self) -> None:
