@@ -9,7 +9,6 @@ import socket
 import sys
 import tempfile
 import time
-import unittest
 from collections.abc import Callable
 from unittest import mock
 

@@ -87,7 +87,7 @@ class Session:
             number, group = numbers_of(owner)
         except KeyError:
             raise Failure(NOT_SET_UP, f"{owner}, as whom {program.words[0]} has to run, has no account") from None
-        return program._replace(folder="/", environment=self.passed(), first=lambda: _become(owner, number, group))
+        return program._replace(folder="", environment=self.passed(), first=lambda: _become(owner, number, group))
 
     def passed(self) -> dict[str, str]:
         """What another user gets of root's environment, which may have passwords."""
