@@ -59,7 +59,7 @@ runs:
 	@tests/syncs
 	@tests/openings
 	@tests/migration-stops
-	@tests/vacuum-stops
+	@tests/copy-stops
 	@tests/batch-stops
 	@tests/unpack-stops
 	@tests/operator-size
