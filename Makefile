@@ -48,7 +48,7 @@ test:
 
 # Tests of the programs that rt ci leaves, the longest first, and how many of them run at once: half as
 # many as there are processors, because the proofs go on beside them.
-RUNS = tests/operator-size tests/calls tests/attacks tests/vacuum-stops tests/migration-stops \
+RUNS = tests/operator-size tests/calls tests/attacks tests/copy-stops tests/migration-stops \
        tests/unpack-stops tests/transcripts tests/fronts tests/bundle-exchange tests/next-calls \
        tests/check-help tests/readme-session tests/package tests/routes tests/failing-streams \
        tests/syncs tests/openings tests/batch-stops tests/seals tests/damaged-files tests/operate \
