@@ -1,6 +1,5 @@
 -- Each event keeps what always holds.
-use Rattle.std.proofs.Common.{◌≡◌, ℕ, ◌<◌, ◌≤◌, max, Bool, true, false, nat_lt, nat_le, ◌&&◌, List, [], ◌∷◌, ◌++◌, map, filter, All, Contains, refl, ap, sym, ◌∙◌, subst, arith, inl, inr, ◌⊎◌}
-use Rattle.std.specs.List.{list_all}
+use Rattle.std.proofs.Common.{◌≡◌, ℕ, ◌<◌, ◌≤◌, max, Bool, true, false, nat_lt, nat_le, ◌&&◌, List, [], ◌∷◌, ◌++◌, All, Contains, refl, ap, sym, ◌∙◌, subst, arith, inl, inr, ◌⊎◌}
 use Rattle.std.proofs.lemmas.Bool.Decides.{nat_tests}
 use Rattle.std.proofs.lemmas.List.Elements.{All-nil, All-weaker, All-contains, Contains-append_left, Contains-append_cases, Contains-push_cases}
 use Rattle.uu_names.proofs.Basics.{first_or_later, in_filter, from_filter, and_first, and_second}
@@ -9,14 +8,14 @@ use Rattle.uu_core.specs.declared.command.Command.TheVariants.{Define, Remove, Q
 use Rattle.uu_core.specs.declared.job.NewJob.{NewJob}
 use Rattle.uu_core.specs.State.{State, Job, Link, link_of}
 use Rattle.uu_core.specs.Order.{IsInOrder}
-use Rattle.uu_core.specs.After.{after, forgotten}
-use Rattle.uu_core.specs.Laws.{IsSameJob, IsAmong, accepted_of}
+use Rattle.uu_core.specs.After.{after}
+use Rattle.uu_core.specs.Laws.{IsAmong, accepted_of}
 use Rattle.uu_core.proofs.RunLemmas.{next-after}
 use Rattle.uu_core.proofs.JobLemmas.{handed_in}
 use Rattle.uu_renumber.specs.Renumbered.{renumbered}
-use Rattle.uu_handover.specs.Custody.{Parcel, parcel_of, Crossing, key_of, Handed, World, IsLeast, HasTaken, MayRun, MayGo, is_of_others, was_said, kills_in, go, IsQueued, IsNotLost}
+use Rattle.uu_handover.specs.Custody.{Parcel, parcel_of, Crossing, key_of, Handed, World, IsLeast, MayRun, MayGo, was_said, kills_in, go, IsQueued, IsNotLost}
 use Rattle.uu_handover.specs.Custody.Step.{SenderRuns, SenderShows, SenderSays, ReceiverTakes, ReceiverRuns, ReceiverTells}
-use Rattle.uu_handover.proofs.CustodyLemmas.{same_parcel, handed_number, link_after, LinkAfter, IsShown}
+use Rattle.uu_handover.proofs.CustodyLemmas.{same_parcel, handed_number, link_after, LinkAfter}
 use Rattle.uu_handover.proofs.CustodyInvariant.{Holds, kept_of, said_above}
 use Rattle.uu_handover.proofs.CustodyRuns.{holds_after}
 use Rattle.uu_handover.proofs.CustodyLaws.{waits_on, carried_back, still_queued}
@@ -422,7 +421,7 @@ module _ (crossing : Crossing) (history : History) (h : Lives crossing history) 
       behind = λ e. by_spool then (AreBehind crossing restored)
           (λ job below inside own said less. done_restored job (let l = low_in copy may.kept job inside in omega (arith, l)) (h.behind (was e) copy kept job below inside own said less))
           (λ other there job below inside own said less. done_restored job (let l = low_in other there job inside in let m = not_below other there in omega (arith, l, m))
-              (h.behind (was e) other (a_copy history other there) job below inside own said less));
+          (h.behind (was e) other (a_copy history other there) job below inside own said less));
     }
       where
         then : History

@@ -74,14 +74,20 @@ module _ (monday tuesday : Moment) where
   it_was_the_newest : last.is_newest ≡ true
   it_was_the_newest = refl
 
+  only_what_was_said : last.world.is_heard ≡ true
+  only_what_was_said = refl
+
   -- each of these events may happen, as each premise holds
   abbrev none : State
   none = state_after mysite (Queue (letter (codes "Again")) ∷ Done (codes "duke") tuesday (1 ∷ 2 ∷ []) ∷ [])
 
-  told : All (Contains (1 ∷ 2 ∷ [])) (1 ∷ 2 ∷ [])
+  abbrev numbers : List ℕ
+  numbers = 1 ∷ 2 ∷ []
+
+  told : All (Contains numbers) numbers
   told =
-      All-cons (Contains (1 ∷ 2 ∷ [])) 1 (2 ∷ []) (first_of 1 (2 ∷ []))
-      (All-cons (Contains (1 ∷ 2 ∷ [])) 2 [] (later_of 1 2 (2 ∷ []) (first_of 2 [])) (All-nil (Contains (1 ∷ 2 ∷ []))))
+      All-cons (Contains numbers) 1 (2 ∷ []) (first_of 1 (2 ∷ []))
+      (All-cons (Contains numbers) 2 [] (later_of 1 2 (2 ∷ []) (first_of 2 [])) (All-nil (Contains numbers)))
 
   least : IsLeast crossing none 3
   least = record { now = All-nil (λ (job : Job). job.system ≡ codes "duke" → 3 ≤ job.number); later = omega arith }
@@ -97,23 +103,13 @@ module _ (monday tuesday : Moment) where
   copies : All (λ (copy : State). copy.next ≤ 3) (mysite ∷ [])
   copies = All-cons (λ (copy : State). copy.next ≤ 3) mysite [] (omega arith) (All-nil (λ (copy : State). copy.next ≤ 3))
 
-  they_may_happen : MayHappenOn crossing (first mysite duke) events
-  they_may_happen = (
-    tt,
-    (first_of one [], refl),
-    (first_of (parcel_of one) [], refl),
-    tt,
-    (later_of one two (two ∷ []) (first_of two []), refl),
-    (later_of (parcel_of one) (parcel_of two) (parcel_of two ∷ []) (first_of (parcel_of two) []), refl),
-    (λ same. told),
-    least,
-    refl,
-    record { kept = first_of mysite []; above = above; said = not_below; copies = copies },
-    tt,
-    (later_of one (third 3) (third 3 ∷ []) (first_of (third 3) []), refl),
-    (later_of (parcel_of one) (parcel_of (third 3)) (parcel_of two ∷ parcel_of (third 3) ∷ []) (later_of (parcel_of two) (parcel_of (third 3)) (parcel_of (third 3) ∷ []) (first_of (parcel_of (third 3)) [])), refl),
-    tt,
-  )
+  pub they_may_happen : MayHappenOn crossing (first mysite duke) events
+  they_may_happen = (tt, ((first_of one [], refl), ((first_of (parcel_of one) [], refl), (tt, ((later_of one two (two ∷ []) (first_of two []), refl), ((later_of (parcel_of one) (parcel_of two) (parcel_of two ∷ []) (first_of (parcel_of two) []), refl), ((λ same. told), (least, (refl, (record { kept = first_of mysite []; above = above; said = not_below; copies = copies }, (tt, ((later_of one (third 3) (third 3 ∷ []) (first_of (third 3) []), refl), ((in_shown, refl), tt)))))))))))))
+    where
+      in_shown : Contains (parcel_of one ∷ parcel_of two ∷ parcel_of (third 3) ∷ []) (parcel_of (third 3))
+      in_shown =
+          later_of (parcel_of one) (parcel_of (third 3)) (parcel_of two ∷ parcel_of (third 3) ∷ [])
+          (later_of (parcel_of two) (parcel_of (third 3)) (parcel_of (third 3) ∷ []) (first_of (parcel_of (third 3)) []))
 
   -- ---- without a later number
 

@@ -1,10 +1,10 @@
 -- What always holds of two spools, a wire and the copies of the sender's spool.
-use Rattle.std.proofs.Common.{◌≡◌, ℕ, ◌<◌, ◌≤◌, true, false, List, [], ◌∷◌, Contains, subst, inl, inr, ◌⊎◌}
+use Rattle.std.proofs.Common.{◌≡◌, ℕ, ◌<◌, ◌≤◌, true, false, List, [], Contains, subst, inl, inr, ◌⊎◌}
 use Rattle.std.proofs.lemmas.List.Elements.{All-nil}
 use Rattle.uu_names.proofs.Basics.{first_of, later_of, first_or_later, one_of_number}
-use Rattle.uu_core.specs.State.{State, Job, Link}
+use Rattle.uu_core.specs.State.{State, Job}
 use Rattle.uu_core.specs.Order.{IsInOrder}
-use Rattle.uu_core.specs.Laws.{IsSameJob, IsAmong}
+use Rattle.uu_core.specs.Laws.{IsSameJob}
 use Rattle.uu_handover.specs.Custody.{Parcel, parcel_of, Crossing, World, IsLeast, IsQueued}
 use Rattle.uu_handover.proofs.CustodyLemmas.{same_parcel}
 use Rattle.uu_handover.proofs.CustodyInvariant.{Holds, kept_of}

@@ -1,5 +1,5 @@
 -- What follows of jobs of a spool that was put back.
-use Rattle.std.proofs.Common.{◌≡◌, ℕ, ◌<◌, ◌≤◌, Bool, true, false, not, cond, ltb, leb, ◌==◌, List, [], ◌∷◌, ◌++◌, All, Contains, Option, Some, None, refl, ap, sym, ◌∙◌, subst, arith, inl, inr, ◌⊎◌}
+use Rattle.std.proofs.Common.{◌≡◌, ℕ, ◌<◌, ◌≤◌, Bool, true, false, cond, ltb, leb, [], ◌∷◌, ◌++◌, All, Contains, Option, Some, None, refl, ap, sym, ◌∙◌, arith, inl, inr, ◌⊎◌}
 use Rattle.std.proofs.lemmas.Bool.{eqb-true, eq-eqb, both_ways}
 use Rattle.std.proofs.lemmas.Bool.Decides.{nat_tests}
 use Rattle.std.proofs.lemmas.List.Elements.{All-weaker}
@@ -8,14 +8,13 @@ use Rattle.uu_core.specs.declared.command.Command.TheVariants.{QueueOnce}
 use Rattle.uu_core.specs.declared.custody.Key.{Key}
 use Rattle.uu_core.specs.declared.custody.Taken.{Taken}
 use Rattle.uu_core.specs.declared.job.NewJob.{NewJob}
-use Rattle.uu_core.specs.declared.refusal.Refusal.{Refusal}
 use Rattle.uu_core.specs.declared.refusal.Refusal.TheVariants.{TooLarge, NoSystem, NumbersOut, Stale, Differs}
 use Rattle.uu_core.specs.Refusal.{first_reason}
 use Rattle.uu_core.specs.State.{State, Job, is_taken}
 use Rattle.uu_core.specs.Verdict.{verdict, queue_reasons, fresh_reasons, is_again, is_other, are_known, taken_of}
 use Rattle.uu_core.specs.After.{after}
 use Rattle.uu_handover.specs.Bundles.{Bundle, Told, IsSaid, settling}
-use Rattle.uu_handover.specs.Custody.{Parcel, parcel_of, Crossing, key_of, World, IsQueued, IsFree}
+use Rattle.uu_handover.specs.Custody.{Parcel, parcel_of, Crossing, key_of, IsQueued, IsFree}
 use Rattle.uu_handover.proofs.BundleLaws.{told_of_job, settled_told}
 use Rattle.uu_handover.proofs.CustodyInvariant.{kept_of}
 use Rattle.uu_handover.proofs.CustodyLaws.{unchanged, free_above}
@@ -45,7 +44,7 @@ counts_anew crossing history h = record {
 pub settled : (crossing : Crossing) (history : History) (mark : Parcel → ℕ) (bundle : Bundle) (told : Told) (job : Job) → Lives crossing history
     → IsSaid crossing.to crossing.from mark history.world.receiver bundle → Contains bundle.has told → Contains history.world.sender.jobs job → job.system ≡ crossing.to → job.number ≡ told.number
     → IsQueued crossing history.world (parcel_of job) × (told.mark ≡ crossing.mark (parcel_of job))
-        × (¬ Contains (after history.world.sender (settling crossing.to crossing.mark history.world.sender bundle)).0.jobs job)
+    × (¬ Contains (after history.world.sender (settling crossing.to crossing.mark history.world.sender bundle)).0.jobs job)
 settled crossing history mark bundle told job h said there waits own number =
     let it = told_of_job crossing (silent history.world) h.holds mark bundle told said there job waits number in
     let queued = it.0 in (
@@ -106,22 +105,22 @@ module _ (crossing : Crossing) (history : History) (h : Lives crossing history) 
 module _ (crossing : Crossing) (history : History) (h : Lives crossing history) (job : Job) (new : NewJob) (newest : history.is_newest ≡ true) (heard : history.world.is_heard ≡ true)
     (there : Contains history.world.sender.jobs job) (own : job.system ≡ crossing.to)
   where
-  forgotten_done : job.number < (kept_of crossing history.world).below → IsBelowSaid history.world.said (kept_of crossing history.world).below → IsDone crossing history.world job
-  forgotten_done low (inl none) = absurd (omega (arith, low, none))
-  forgotten_done low (inr (one, inside, most)) = h.behind newest history.world.sender (the_sender history) job one there own inside (omega (arith, low, most))
+    forgotten_done : job.number < (kept_of crossing history.world).below → IsBelowSaid history.world.said (kept_of crossing history.world).below → IsDone crossing history.world job
+    forgotten_done low (inl none) = absurd (omega (arith, low, none))
+    forgotten_done low (inr (one, inside, most)) = h.behind newest history.world.sender (the_sender history) job one there own inside (omega (arith, low, most))
 
-  pub free_or_done : IsFree crossing history.world job new ⊎ IsDone crossing history.world job
-  free_or_done = by-test (leb (kept_of crossing history.world).below job.number) refl
-    where
-      by-test : (t : Bool) → leb (kept_of crossing history.world).below job.number ≡ t → IsFree crossing history.world job new ⊎ IsDone crossing history.world job
-      by-test true e = inl (free_above crossing (silent history.world) job new h.holds there (grind (arith, nat_tests)))
-      by-test false e = inr (forgotten_done (grind (arith, nat_tests)) (h.heard heard))
+    pub free_or_done : IsFree crossing history.world job new ⊎ IsDone crossing history.world job
+    free_or_done = by-test (leb (kept_of crossing history.world).below job.number) refl
+      where
+        by-test : (t : Bool) → leb (kept_of crossing history.world).below job.number ≡ t → IsFree crossing history.world job new ⊎ IsDone crossing history.world job
+        by-test true e = inl (free_above crossing (silent history.world) job new h.holds there (grind (arith, nat_tests)))
+        by-test false e = inr (forgotten_done (grind (arith, nat_tests)) (h.heard heard))
 
-  pub stale_was_done : verdict history.world.receiver (QueueOnce (key_of crossing (parcel_of job)) new) ≡ Some Stale → IsDone crossing history.world job
-  stale_was_done stale = elim free_or_done [
-    | inl free ↦ (elim free [
-      | inl none ↦ absurd (let e : None ≡ Some Stale = sym none ∙ stale in cc)
-      | inr first ↦ absurd (no_stale _ _ _ (sym first ∙ stale))
-    ])
-    | inr done ↦ done
-  ]
+    pub stale_was_done : verdict history.world.receiver (QueueOnce (key_of crossing (parcel_of job)) new) ≡ Some Stale → IsDone crossing history.world job
+    stale_was_done stale = elim free_or_done [
+      | inl free ↦ (elim free [
+        | inl none ↦ absurd (let e : None ≡ Some Stale = sym none ∙ stale in cc)
+        | inr first ↦ absurd (no_stale _ _ _ (sym first ∙ stale))
+      ])
+      | inr done ↦ done
+    ]

@@ -1,18 +1,17 @@
 -- What always holds does so in each history that is reached.
-use Rattle.std.proofs.Common.{◌≡◌, ℕ, ◌<◌, ◌≤◌, List, [], ◌∷◌, All, Contains, refl, sym, subst, arith, inl, inr, ◌⊎◌}
+use Rattle.std.proofs.Common.{◌≡◌, List, [], ◌∷◌, All, Contains, refl, sym, subst, inl}
 use Rattle.std.proofs.lemmas.List.Elements.{All-contains}
-use Rattle.uu_names.proofs.Basics.{none_in, in_one, first_or_later}
+use Rattle.uu_names.proofs.Basics.{none_in, in_one}
 use Rattle.uu_core.specs.State.{State, Job, IsWellFormed, link_of, new_link, Link}
-use Rattle.uu_handover.specs.Custody.{Parcel, parcel_of, Crossing, World, Step, MayGo, go, start, IsNotLost}
+use Rattle.uu_handover.specs.Custody.{parcel_of, Crossing, Step, MayGo, go, start, IsNotLost}
 use Rattle.uu_handover.specs.Custody.Step.{SenderRuns, SenderShows, SenderSays, ReceiverTakes, ReceiverRuns, ReceiverTells}
 use Rattle.uu_handover.proofs.CustodyInvariant.{Holds}
 use Rattle.uu_handover.proofs.CustodyLaws.{still_killed, still_queued}
 use Rattle.uu_handover.proofs.CustodyRuns.{holds_start}
-use Rattle.uu_restored.specs.Restored.{History, Event, MayHappen, MayHappenOn, happen, history_after, first, IsHistory, IsSpool, IsDone, IsKnown}
+use Rattle.uu_restored.specs.Restored.{History, Event, MayHappen, MayHappenOn, happen, history_after, first, IsHistory, IsSpool, IsKnown}
 use Rattle.uu_restored.specs.Restored.Event.{Goes, Copies, Leaves, PutsBack}
-use Rattle.uu_restored.proofs.SpoolLemmas.{itself}
 use Rattle.uu_restored.proofs.HistoryInvariant.{silent, silenced, AreAlike, Knows, Lives, alike_within, own_known, the_sender, a_copy, by_spool, done_on, known_on}
-use Rattle.uu_restored.proofs.HistoryEvents.{after_take, after_tell, after_receiver, after_show, after_say, after_run, known_run, done_run, after_copy, after_leave, after_back, known_restored, known_copy}
+use Rattle.uu_restored.proofs.HistoryEvents.{after_take, after_tell, after_receiver, after_show, after_say, after_run, known_run, after_copy, after_leave, after_back, known_restored, known_copy}
 
 after_step : (crossing : Crossing) (history : History) (step : Step) → Lives crossing history → MayGo crossing history.world step → Lives crossing (record history { world = go crossing history.world step })
 after_step crossing history (SenderRuns command) h may = after_run crossing history h command may

@@ -6,7 +6,7 @@ use Rattle.std.specs.List.{list_all}
 use Rattle.uu_core.specs.State.{State, Job, IsWellFormed, link_of, new_link}
 use Rattle.uu_core.specs.Laws.{IsAmong}
 use Rattle.uu_renumber.specs.Renumbered.{renumbered}
-use Rattle.uu_handover.specs.Custody.{Crossing, Parcel, parcel_of, World, Step, MayGo, go, start, IsQueued}
+use Rattle.uu_handover.specs.Custody.{Crossing, parcel_of, World, Step, MayGo, go, start, IsQueued}
 
 -- The two spools and the wire. The copies of the sender's spool that may still be put back. Whether
 -- each copy that was put back was the newest of them.

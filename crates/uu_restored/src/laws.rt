@@ -56,7 +56,7 @@ pub fn jobs_of_a_spool_that_was_put_back_come_once()
     ensures settled { (crossing : Crossing) (history : History) (mark : Parcel → ℕ) (bundle : Bundle) (told : Told) (job : Job) → IsHistory crossing history
         → IsSaid crossing.to crossing.from mark history.world.receiver bundle → Contains bundle.has told → Contains history.world.sender.jobs job → job.system ≡ crossing.to → job.number ≡ told.number
         → IsQueued crossing history.world (parcel_of job) × (told.mark ≡ crossing.mark (parcel_of job))
-            × (¬ Contains (after history.world.sender (settling crossing.to crossing.mark history.world.sender bundle)).0.jobs job) }
+        × (¬ Contains (after history.world.sender (settling crossing.to crossing.mark history.world.sender bundle)).0.jobs job) }
     ensures never_differs { (crossing : Crossing) (history : History) (parcel : Parcel) (new : NewJob) → IsHistory crossing history → Contains history.world.shown parcel
         → ¬ (verdict history.world.receiver (QueueOnce (key_of crossing parcel) new) ≡ Some Differs) }
     ensures free_or_done { (crossing : Crossing) (history : History) (job : Job) (new : NewJob) → IsHistory crossing history → history.is_newest ≡ true → history.world.is_heard ≡ true

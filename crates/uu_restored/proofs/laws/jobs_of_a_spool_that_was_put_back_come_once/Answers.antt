@@ -1,4 +1,3 @@
-use Rattle.uu_restored.proofs.HistoryInvariant.{Lives}
 use Rattle.uu_restored.proofs.HistoryRuns.{lives, never_lost}
 use Rattle.uu_restored.proofs.HistoryLaws.{still_unchanged, counts_anew, settled, never_differs, free_or_done, stale_was_done}
 use Rattle.uu_restored.proofs.laws.jobs_of_a_spool_that_was_put_back_come_once.Goals as goal
