@@ -18,6 +18,11 @@ use Rattle.uu_handover.specs.Custody.Step.{SenderRuns, SenderShows, SenderSays, 
 use Rattle.uu_restored.specs.Restored.{History, Event, MayHappenOn, history_after, first}
 use Rattle.uu_restored.specs.Restored.Event.{Goes, Copies, PutsBack}
 
+-- one thing, and more
+infixr 10 ◌&◌
+abbrev ◌&◌ : {A B : Type 0} → A → B → A × B
+a & b = (a, b)
+
 module _ (monday tuesday : Moment) where
   abbrev system : List ℕ → System
   system name = record { name = name; lines = []; max_retries = 26; success_wait = 0 }
@@ -104,7 +109,11 @@ module _ (monday tuesday : Moment) where
   copies = All-cons (λ (copy : State). copy.next ≤ 3) mysite [] (omega arith) (All-nil (λ (copy : State). copy.next ≤ 3))
 
   pub they_may_happen : MayHappenOn crossing (first mysite duke) events
-  they_may_happen = (tt, ((first_of one [], refl), ((first_of (parcel_of one) [], refl), (tt, ((later_of one two (two ∷ []) (first_of two []), refl), ((later_of (parcel_of one) (parcel_of two) (parcel_of two ∷ []) (first_of (parcel_of two) []), refl), ((λ same. told), (least, (refl, (record { kept = first_of mysite []; above = above; said = not_below; copies = copies }, (tt, ((later_of one (third 3) (third 3 ∷ []) (first_of (third 3) []), refl), ((in_shown, refl), tt)))))))))))))
+  they_may_happen =
+      tt & (first_of one [], refl) & (first_of (parcel_of one) [], refl)
+      & tt & (later_of one two (two ∷ []) (first_of two []), refl) & (later_of (parcel_of one) (parcel_of two) (parcel_of two ∷ []) (first_of (parcel_of two) []), refl)
+      & (λ same. told) & least & refl & record { kept = first_of mysite []; above = above; said = not_below; copies = copies }
+      & tt & (later_of one (third 3) (third 3 ∷ []) (first_of (third 3) []), refl) & (in_shown, refl) & tt
     where
       in_shown : Contains (parcel_of one ∷ parcel_of two ∷ parcel_of (third 3) ∷ []) (parcel_of (third 3))
       in_shown =
