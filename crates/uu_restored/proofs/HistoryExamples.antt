@@ -1,11 +1,11 @@
 -- A spool that is put back, as computed. A letter is queued, and the spool is copied. Then the letter
 -- crosses, and another one behind it. The copy is put back, and a third letter is queued.
-use Rattle.std.proofs.Common.{◌≡◌, ℕ, ◌<◌, ◌≤◌, true, List, [], ◌∷◌, ◌++◌, map, length, codes, Contains, All, Some, refl, arith}
+use Rattle.std.proofs.Common.{◌≡◌, ℕ, ◌<◌, ◌≤◌, true, false, List, [], ◌∷◌, ◌++◌, map, length, codes, Contains, All, Some, refl, arith}
 use Rattle.std.proofs.lemmas.List.Elements.{All-nil, All-cons}
 use Rattle.uu_names.proofs.Basics.{first_of, later_of}
 use Rattle.uu_times.specs.declared.moment.Moment.{Moment}
 use Rattle.uu_times.specs.System.{System}
-use Rattle.uu_core.specs.declared.command.Command.TheVariants.{Define, Queue, QueueOnce, Done, Forget}
+use Rattle.uu_core.specs.declared.command.Command.TheVariants.{Define, Queue, QueueOnce, Kill, Done, Forget}
 use Rattle.uu_core.specs.declared.job.Kind.TheVariants.{Execute}
 use Rattle.uu_core.specs.declared.job.NewJob.{NewJob}
 use Rattle.uu_core.specs.declared.refusal.Refusal.TheVariants.{Stale}
@@ -15,7 +15,7 @@ use Rattle.uu_core.specs.After.{job_of}
 use Rattle.uu_core.specs.Run.{state_after}
 use Rattle.uu_handover.specs.Custody.{Crossing, Parcel, parcel_of, key_of, IsLeast}
 use Rattle.uu_handover.specs.Custody.Step.{SenderRuns, SenderShows, SenderSays, ReceiverTakes, ReceiverRuns}
-use Rattle.uu_restored.specs.Restored.{History, Event, MayHappenOn, history_after, first}
+use Rattle.uu_restored.specs.Restored.{Copy, History, Event, MayHappenOn, history_after, first}
 use Rattle.uu_restored.specs.Restored.Event.{Goes, Copies, PutsBack}
 
 -- one thing, and more
@@ -36,6 +36,9 @@ module _ (monday tuesday : Moment) where
 
   abbrev mysite : State
   mysite = state_after empty (Define (system (codes "duke")) ∷ Queue (letter (codes "Hello")) ∷ [])
+
+  abbrev copied : Copy
+  copied = record { spool = mysite; killed = [] }
 
   abbrev duke : State
   duke = state_after empty (Define (system (codes "mysite")) ∷ Define (system (codes "unc")) ∷ [])
@@ -62,7 +65,7 @@ module _ (monday tuesday : Moment) where
 
   -- what was handed in is forgotten, the copy is put back, and the third letter crosses
   abbrev events : List Event
-  events = before ++ Goes (SenderSays 3) ∷ Goes (ReceiverRuns (Forget (codes "mysite") 3)) ∷ PutsBack mysite 3 ∷ Goes (SenderRuns (Queue (letter (codes "Third")))) ∷ crosses (third 3)
+  events = before ++ Goes (SenderSays 3) ∷ Goes (ReceiverRuns (Forget (codes "mysite") 3)) ∷ PutsBack copied 3 ∷ Goes (SenderRuns (Queue (letter (codes "Third")))) ∷ crosses (third 3)
 
   abbrev last : History
   last = history_after crossing (first mysite duke) events
@@ -105,14 +108,14 @@ module _ (monday tuesday : Moment) where
   not_below : All (λ below. below ≤ 3) (3 ∷ [])
   not_below = All-cons (λ below. below ≤ 3) 3 [] (omega arith) (All-nil (λ below. below ≤ 3))
 
-  copies : All (λ (copy : State). copy.next ≤ 3) (mysite ∷ [])
-  copies = All-cons (λ (copy : State). copy.next ≤ 3) mysite [] (omega arith) (All-nil (λ (copy : State). copy.next ≤ 3))
+  copies : All (λ (copy : Copy). copy.spool.next ≤ 3) (copied ∷ [])
+  copies = All-cons (λ (copy : Copy). copy.spool.next ≤ 3) copied [] (omega arith) (All-nil (λ (copy : Copy). copy.spool.next ≤ 3))
 
   pub they_may_happen : MayHappenOn crossing (first mysite duke) events
   they_may_happen =
       tt & (first_of one [], refl) & (first_of (parcel_of one) [], refl)
       & tt & (later_of one two (two ∷ []) (first_of two []), refl) & (later_of (parcel_of one) (parcel_of two) (parcel_of two ∷ []) (first_of (parcel_of two) []), refl)
-      & (λ same. told) & least & refl & record { kept = first_of mysite []; above = above; said = not_below; copies = copies }
+      & (λ same. told) & least & refl & record { kept = first_of copied []; above = above; said = not_below; copies = copies }
       & tt & (later_of one (third 3) (third 3 ∷ []) (first_of (third 3) []), refl) & (in_shown, refl) & tt
     where
       in_shown : Contains (parcel_of one ∷ parcel_of two ∷ parcel_of (third 3) ∷ []) (parcel_of (third 3))
@@ -120,11 +123,23 @@ module _ (monday tuesday : Moment) where
           later_of (parcel_of one) (parcel_of (third 3)) (parcel_of two ∷ parcel_of (third 3) ∷ [])
           (later_of (parcel_of two) (parcel_of (third 3)) (parcel_of (third 3) ∷ []) (first_of (parcel_of (third 3)) []))
 
+  -- ---- killed after the copy was made
+
+  -- the first letter is killed, waits again after the copy is put back, and crosses
+  abbrev again : History
+  again = history_after crossing (first mysite duke) (Copies ∷ Goes (SenderRuns (Kill 1 (record { user = codes "ann"; admin = false }))) ∷ PutsBack copied 2 ∷ crosses one)
+
+  it_comes_once : map (λ (job : Job). job.bytes) again.world.receiver.jobs ≡ codes "Hello" ∷ []
+  it_comes_once = refl
+
+  it_is_killed_no_more : (again.world.killed ≡ []) × (again.given_up ≡ 1 ∷ [])
+  it_is_killed_no_more = (refl, refl)
+
   -- ---- without a later number
 
   -- the third letter gets the number of the second, whose mark it has, and counts as taken
   abbrev too_low : History
-  too_low = history_after crossing (first mysite duke) (before ++ PutsBack mysite 2 ∷ Goes (SenderRuns (Queue (letter (codes "Third")))) ∷ crosses (third 2))
+  too_low = history_after crossing (first mysite duke) (before ++ PutsBack copied 2 ∷ Goes (SenderRuns (Queue (letter (codes "Third")))) ∷ crosses (third 2))
 
   the_third_is_lost : map (λ (job : Job). job.bytes) too_low.world.receiver.jobs ≡ codes "Hello" ∷ codes "Again" ∷ []
   the_third_is_lost = refl

@@ -10,7 +10,7 @@ use Rattle.uu_core.specs.declared.custody.Taken.{Taken}
 use Rattle.uu_core.specs.declared.job.NewJob.{NewJob}
 use Rattle.uu_core.specs.declared.refusal.Refusal.TheVariants.{TooLarge, NoSystem, NumbersOut, Stale, Differs}
 use Rattle.uu_core.specs.Refusal.{first_reason}
-use Rattle.uu_core.specs.State.{State, Job, is_taken}
+use Rattle.uu_core.specs.State.{Job, is_taken}
 use Rattle.uu_core.specs.Verdict.{verdict, queue_reasons, fresh_reasons, is_again, is_other, are_known, taken_of}
 use Rattle.uu_core.specs.After.{after}
 use Rattle.uu_handover.specs.Bundles.{Bundle, Told, IsSaid, settling}
@@ -19,8 +19,8 @@ use Rattle.uu_handover.proofs.BundleLaws.{told_of_job, settled_told}
 use Rattle.uu_handover.proofs.CustodyInvariant.{kept_of}
 use Rattle.uu_handover.proofs.CustodyLaws.{unchanged, free_above}
 use Rattle.uu_handover.proofs.SettledLaws.{gone}
-use Rattle.uu_restored.specs.Restored.{History, CountsAnew, IsDone}
-use Rattle.uu_restored.proofs.HistoryInvariant.{silent, IsBelowSaid, Lives, the_sender}
+use Rattle.uu_restored.specs.Restored.{Copy, History, present, CountsAnew, IsDone}
+use Rattle.uu_restored.proofs.HistoryInvariant.{silent, IsBelowSaid, Lives, the_present}
 
 -- ---- what was handed in is not queued again
 
@@ -33,9 +33,9 @@ still_unchanged crossing history parcel new h queued = unchanged crossing (silen
 pub counts_anew : (crossing : Crossing) (history : History) → Lives crossing history → CountsAnew history
 counts_anew crossing history h = record {
   shown = all_from (λ (p : Parcel). p.number < history.world.sender.next) history.world.shown (λ parcel there. (h.holds.shown parcel there).used);
-  killed = all_from (λ n. n < history.world.sender.next) history.world.killed h.killed;
-  copies = all_from (λ (s : State). All (λ (j : Job). j.number < history.world.sender.next) s.jobs) history.copies
-      (λ copy there. All-weaker (λ (j : Job). j.number < copy.next) (λ (j : Job). j.number < history.world.sender.next) (λ j l. let m = h.next copy there in omega (arith, l, m)) copy.jobs (h.order copy there).below_next);
+  killed = all_from (λ n. n < history.world.sender.next) history.world.killed (h.killed (present history) (the_present history));
+  copies = all_from (λ (c : Copy). All (λ (j : Job). j.number < history.world.sender.next) c.spool.jobs) history.copies
+      (λ copy there. All-weaker (λ (j : Job). j.number < copy.spool.next) (λ (j : Job). j.number < history.world.sender.next) (λ j l. let m = h.next copy there in omega (arith, l, m)) copy.spool.jobs (h.order copy there).below_next);
   said = all_from (λ b. b ≤ history.world.sender.next) history.world.said h.said;
 }
 
@@ -105,18 +105,18 @@ module _ (crossing : Crossing) (history : History) (h : Lives crossing history) 
 module _ (crossing : Crossing) (history : History) (h : Lives crossing history) (job : Job) (new : NewJob) (newest : history.is_newest ≡ true) (heard : history.world.is_heard ≡ true)
     (there : Contains history.world.sender.jobs job) (own : job.system ≡ crossing.to)
   where
-    forgotten_done : job.number < (kept_of crossing history.world).below → IsBelowSaid history.world.said (kept_of crossing history.world).below → IsDone crossing history.world job
+    forgotten_done : job.number < (kept_of crossing history.world).below → IsBelowSaid history.world.said (kept_of crossing history.world).below → IsDone crossing history job
     forgotten_done low (inl none) = absurd (omega (arith, low, none))
-    forgotten_done low (inr (one, inside, most)) = h.behind newest history.world.sender (the_sender history) job one there own inside (omega (arith, low, most))
+    forgotten_done low (inr (one, inside, most)) = h.behind newest (present history) (the_present history) job one there own inside (omega (arith, low, most))
 
-    pub free_or_done : IsFree crossing history.world job new ⊎ IsDone crossing history.world job
+    pub free_or_done : IsFree crossing history.world job new ⊎ IsDone crossing history job
     free_or_done = by-test (leb (kept_of crossing history.world).below job.number) refl
       where
-        by-test : (t : Bool) → leb (kept_of crossing history.world).below job.number ≡ t → IsFree crossing history.world job new ⊎ IsDone crossing history.world job
+        by-test : (t : Bool) → leb (kept_of crossing history.world).below job.number ≡ t → IsFree crossing history.world job new ⊎ IsDone crossing history job
         by-test true e = inl (free_above crossing (silent history.world) job new h.holds there (grind (arith, nat_tests)))
         by-test false e = inr (forgotten_done (grind (arith, nat_tests)) (h.heard heard))
 
-    pub stale_was_done : verdict history.world.receiver (QueueOnce (key_of crossing (parcel_of job)) new) ≡ Some Stale → IsDone crossing history.world job
+    pub stale_was_done : verdict history.world.receiver (QueueOnce (key_of crossing (parcel_of job)) new) ≡ Some Stale → IsDone crossing history job
     stale_was_done stale = elim free_or_done [
       | inl free ↦ (elim free [
         | inl none ↦ absurd (let e : None ≡ Some Stale = sym none ∙ stale in cc)

@@ -6,11 +6,11 @@ use Rattle.uu_core.specs.State.{State, Job, IsWellFormed, link_of, new_link, Lin
 use Rattle.uu_handover.specs.Custody.{parcel_of, Crossing, Step, MayGo, go, start, IsNotLost}
 use Rattle.uu_handover.specs.Custody.Step.{SenderRuns, SenderShows, SenderSays, ReceiverTakes, ReceiverRuns, ReceiverTells}
 use Rattle.uu_handover.proofs.CustodyInvariant.{Holds}
-use Rattle.uu_handover.proofs.CustodyLaws.{still_killed, still_queued}
+use Rattle.uu_handover.proofs.CustodyLaws.{still_queued}
 use Rattle.uu_handover.proofs.CustodyRuns.{holds_start}
-use Rattle.uu_restored.specs.Restored.{History, Event, MayHappen, MayHappenOn, happen, history_after, first, IsHistory, IsSpool, IsKnown}
+use Rattle.uu_restored.specs.Restored.{Copy, History, present, Event, MayHappen, MayHappenOn, put_back, happen, history_after, first, IsHistory, IsSpool, IsKnown}
 use Rattle.uu_restored.specs.Restored.Event.{Goes, Copies, Leaves, PutsBack}
-use Rattle.uu_restored.proofs.HistoryInvariant.{silent, silenced, AreAlike, Knows, Lives, alike_within, own_known, the_sender, a_copy, by_spool, done_on, known_on}
+use Rattle.uu_restored.proofs.HistoryInvariant.{silent, silenced, AreAlike, Knows, Lives, alike_within, own_known, the_present, a_copy, by_spool, known_on}
 use Rattle.uu_restored.proofs.HistoryEvents.{after_take, after_tell, after_receiver, after_show, after_say, after_run, known_run, after_copy, after_leave, after_back, known_restored, known_copy}
 
 after_step : (crossing : Crossing) (history : History) (step : Step) → Lives crossing history → MayGo crossing history.world step → Lives crossing (record history { world = go crossing history.world step })
@@ -37,16 +37,19 @@ lives_start crossing sender receiver good well nothing = record {
   one = λ parcel other there. absurd (none_in parcel there);
   order = λ copy there. absurd (none_in copy there);
   next = λ copy there. absurd (none_in copy there);
-  alike = λ spool other there inside. subst (λ s. AreAlike s other) (in_one sender spool there) (subst (AreAlike sender) (in_one sender other inside) (alike_within sender holds.sender_order));
-  shown = λ spool there parcel job inside. absurd (none_in parcel inside);
-  killed = λ number there. absurd (none_in number there);
+  alike = λ copy other there inside. subst (λ (c : Copy). AreAlike c.spool other.spool) (in_one now copy there) (subst (λ (c : Copy). AreAlike sender c.spool) (in_one now other inside) (alike_within sender holds.sender_order));
+  shown = λ copy there parcel job inside. absurd (none_in parcel inside);
+  killed = λ copy there number inside. absurd (none_in number (subst (λ (c : Copy). Contains c.killed number) (sym (in_one now copy there)) inside));
   said = λ below there. absurd (none_in below there);
   heard = λ e. inl (subst (λ (l : Link). l.below ≡ 0) (sym nothing) refl);
-  known = λ e spool other there inside. subst (λ s. Knows crossing (start sender receiver) s other) (in_one sender spool there)
-      (subst (Knows crossing (start sender receiver) sender) (in_one sender other inside) (own_known crossing (start sender receiver) sender));
-  behind = λ e spool there job below inside own said. absurd (none_in below said);
+  known = λ e copy other there inside. subst (λ c. Knows crossing (start sender receiver) c other) (in_one now copy there)
+      (subst (Knows crossing (start sender receiver) now) (in_one now other inside) (own_known crossing (start sender receiver) now));
+  behind = λ e copy there job below inside own said. absurd (none_in below said);
 }
   where
+    now : Copy
+    now = record { spool = sender; killed = [] }
+
     holds : Holds crossing (silent (start sender receiver))
     holds = silenced crossing (start sender receiver) (holds_start crossing sender receiver good well nothing)
 
@@ -58,46 +61,43 @@ lives crossing history it =
 
 -- the job is known to the sender's spool and to each copy
 abbrev IsKnownToAll : Crossing → History → Job → Type 0
-IsKnownToAll crossing history job = (spool : State) → IsSpool history spool → IsKnown crossing history.world job spool
+IsKnownToAll crossing history job = (copy : Copy) → IsSpool history copy → IsKnown crossing history.world job copy
 
--- a step that leaves the sender's spool
-left : (crossing : Crossing) (history : History) (step : Step) (job : Job) (spool : State) → IsKnown crossing history.world job spool → IsKnown crossing (go crossing history.world step) job spool
-left crossing history step job spool it =
-    known_on crossing history.world (go crossing history.world step) job spool
-    (done_on crossing history.world (go crossing history.world step) job (still_killed crossing history.world step job.number) (still_queued crossing history.world step (parcel_of job))) it
+left : (crossing : Crossing) (history : History) (step : Step) (job : Job) (copy : Copy) → IsKnown crossing history.world job copy → IsKnown crossing (go crossing history.world step) job copy
+left crossing history step job copy it = known_on crossing history.world (go crossing history.world step) job copy (still_queued crossing history.world step (parcel_of job)) it
 
 known_step : (crossing : Crossing) (history : History) (step : Step) (job : Job) → Lives crossing history → MayGo crossing history.world step → job.system ≡ crossing.to → IsKnownToAll crossing history job
     → IsKnownToAll crossing (record history { world = go crossing history.world step }) job
 known_step crossing history (SenderRuns command) job h may own all =
     by_spool (record history { world = go crossing history.world (SenderRuns command) }) (IsKnown crossing (go crossing history.world (SenderRuns command)) job)
-    (known_run crossing history h command may job own (all history.world.sender (the_sender history)))
+    (known_run crossing history h command may job own (all (present history) (the_present history)))
     (λ copy there. left crossing history (SenderRuns command) job copy (all copy (a_copy history copy there)))
-known_step crossing history (SenderShows one) job h may own all = λ spool there. left crossing history (SenderShows one) job spool (all spool there)
-known_step crossing history (SenderSays below) job h may own all = λ spool there. left crossing history (SenderSays below) job spool (all spool there)
-known_step crossing history (ReceiverTakes parcel new) job h may own all = λ spool there. left crossing history (ReceiverTakes parcel new) job spool (all spool there)
-known_step crossing history (ReceiverRuns command) job h may own all = λ spool there. left crossing history (ReceiverRuns command) job spool (all spool there)
-known_step crossing history (ReceiverTells number) job h may own all = λ spool there. left crossing history (ReceiverTells number) job spool (all spool there)
+known_step crossing history (SenderShows one) job h may own all = λ copy there. left crossing history (SenderShows one) job copy (all copy there)
+known_step crossing history (SenderSays below) job h may own all = λ copy there. left crossing history (SenderSays below) job copy (all copy there)
+known_step crossing history (ReceiverTakes parcel new) job h may own all = λ copy there. left crossing history (ReceiverTakes parcel new) job copy (all copy there)
+known_step crossing history (ReceiverRuns command) job h may own all = λ copy there. left crossing history (ReceiverRuns command) job copy (all copy there)
+known_step crossing history (ReceiverTells number) job h may own all = λ copy there. left crossing history (ReceiverTells number) job copy (all copy there)
 
 known_event : (crossing : Crossing) (history : History) (event : Event) (job : Job) → Lives crossing history → MayHappen crossing history event → job.system ≡ crossing.to → IsKnownToAll crossing history job → IsKnownToAll crossing (happen crossing history event) job
 known_event crossing history (Goes step) job h may own all = known_step crossing history step job h may own all
 known_event crossing history Copies job h may own all =
-    by_spool (happen crossing history Copies) (IsKnown crossing history.world job) (all history.world.sender (the_sender history)) (λ spool there. all spool there)
+    by_spool (happen crossing history Copies) (IsKnown crossing history.world job) (all (present history) (the_present history)) (λ copy there. all copy there)
 known_event crossing history (Leaves copies) job h may own all =
-    by_spool (happen crossing history (Leaves copies)) (IsKnown crossing history.world job) (all history.world.sender (the_sender history))
+    by_spool (happen crossing history (Leaves copies)) (IsKnown crossing history.world job) (all (present history) (the_present history))
     (λ copy there. all copy (a_copy history copy (All-contains (Contains history.copies) copies copy may there)))
 known_event crossing history (PutsBack copy number) job h may own all =
-    by_spool (happen crossing history (PutsBack copy number)) (IsKnown crossing (happen crossing history (PutsBack copy number)).world job)
+    by_spool (put_back number copy history) (IsKnown crossing (put_back number copy history).world job)
     (known_restored crossing history h copy number may job (all copy (a_copy history copy may.kept)))
-    (λ other there. known_copy crossing history h copy number may job other there (all other (a_copy history other there)))
+    (λ other there. known_copy crossing history h copy number may job other (all other (a_copy history other there)))
 
-pub known_events : (crossing : Crossing) (history : History) (events : List Event) (job : Job) → Lives crossing history → MayHappenOn crossing history events → job.system ≡ crossing.to → IsKnownToAll crossing history job
+known_events : (crossing : Crossing) (history : History) (events : List Event) (job : Job) → Lives crossing history → MayHappenOn crossing history events → job.system ≡ crossing.to → IsKnownToAll crossing history job
     → IsKnownToAll crossing (history_after crossing history events) job
 known_events crossing history [] job h may own all = all
 known_events crossing history (event ∷ events) job h may own all =
     known_events crossing (happen crossing history event) events job (after_event crossing history event h may.0) may.1 own (known_event crossing history event job h may.0 own all)
 
 pub never_lost : (crossing : Crossing) (history : History) (events : List Event) (job : Job) → Lives crossing history → MayHappenOn crossing history events → job.system ≡ crossing.to
-    → All (IsKnown crossing history.world job) (history.world.sender ∷ history.copies) → IsNotLost crossing (history_after crossing history events).world job
+    → All (IsKnown crossing history.world job) (present history ∷ history.copies) → IsNotLost crossing (history_after crossing history events).world job
 never_lost crossing history events job h may own all =
-    (known_events crossing history events job h may own (λ spool there. All-contains (IsKnown crossing history.world job) (history.world.sender ∷ history.copies) spool all there)
-    (history_after crossing history events).world.sender (the_sender (history_after crossing history events))).has
+    let known = known_events crossing history events job h may own (λ copy there. All-contains (IsKnown crossing history.world job) (present history ∷ history.copies) copy all there) in
+    (known (present (history_after crossing history events)) (the_present (history_after crossing history events))).has

@@ -3,12 +3,12 @@ ghost use Rattle.std.specs.Prelude.{◌≡◌, ◌⊎◌, ◌<◌, ℕ, List, �
 ghost use Rattle.uu_core.specs.declared.command.Command.TheVariants.{QueueOnce};
 ghost use Rattle.uu_core.specs.declared.job.NewJob.{NewJob};
 ghost use Rattle.uu_core.specs.declared.refusal.Refusal.TheVariants.{Stale, Differs};
-ghost use Rattle.uu_core.specs.State.{State, Job};
+ghost use Rattle.uu_core.specs.State.{Job};
 ghost use Rattle.uu_core.specs.Verdict.{verdict};
 ghost use Rattle.uu_core.specs.After.{after};
 ghost use Rattle.uu_handover.specs.Bundles.{Bundle, Told, IsSaid, settling, settled_of};
 ghost use Rattle.uu_handover.specs.Custody.{Crossing, Parcel, parcel_of, key_of, Handed, IsHandedFor, IsQueued, IsNotLost, IsFree};
-ghost use Rattle.uu_restored.specs.Restored.{History, Event, MayHappenOn, history_after, IsHistory, IsSpool, IsDone, IsKnown, CountsAnew};
+ghost use Rattle.uu_restored.specs.Restored.{Copy, History, present, Event, MayHappenOn, history_after, IsHistory, IsSpool, IsDone, IsKnown, CountsAnew};
 
 /// Custody goes on after the sender's spool was put back from a copy of an earlier day, if what is
 /// put back is renumbered: its next number is above each number that went on the wire, and not
@@ -19,11 +19,12 @@ ghost use Rattle.uu_restored.specs.Restored.{History, Event, MayHappenOn, histor
 ///   numbers (`apart`), and a parcel that was queued changes nothing any more (`unchanged`).
 /// - One number on the wire is that of one parcel (`one_parcel`), and a job of the sender's spool or
 ///   of a copy that has such a number is that parcel's job (`one_job`).
-/// - A job that the sender's spool and each copy knows waits at the sender later too, or was killed,
-///   or was queued, whatever is put back (`never_lost`). If each time the newest of the copies that
-///   were kept was put back, the job of any of them is known to all that gave its number (`known`).
-/// - No number is given again that went on the wire, or is that of a killed job or of a job in a
-///   copy (`counted_anew`).
+/// - Let the sender's spool and each copy have a job, or let it have been killed or queued before the
+///   copy was made. Then whatever is put back, the job waits at the sender, or was killed in the past
+///   of the spool that stands, or was queued (`never_lost`). If each time the newest copy that was kept
+///   was put back, all this holds of each job of any copy, for each that gave its number (`known`).
+/// - No number is given again that went on the wire, or is that of a job in a copy, or of one that was
+///   killed in the past of the spool that stands (`counted_anew`).
 /// - What was answered was queued (`answered`). What was queued was made from a parcel with its
 ///   number (`same`).
 /// - If a bundle of the receiver's has a number of a job that waits at the sender, that job was
@@ -31,8 +32,9 @@ ghost use Rattle.uu_restored.specs.Restored.{History, Event, MayHappenOn, histor
 /// - The receiver refuses no parcel of the wire because it differs from one that it took
 ///   (`never_differs`).
 /// - If the newest copy was put back each time, and the receiver forgot only what the sender had
-///   said, then no key prevents a waiting job from getting through, or the job was killed or queued
-///   before (`free_or_done`). So a job that is stale was killed or queued (`stale_was_done`).
+///   said, then no key prevents a waiting job from getting through, or the job was queued before or
+///   killed, maybe in a past that was given up (`free_or_done`). So a job that is stale was queued or
+///   killed (`stale_was_done`).
 pub fn jobs_of_a_spool_that_was_put_back_come_once()
     ensures never_twice { (crossing : Crossing) (history : History) → IsHistory crossing history
         → AllPairs (λ one other. ¬ (one.number ≡ other.number)) history.world.handed }
@@ -42,12 +44,12 @@ pub fn jobs_of_a_spool_that_was_put_back_come_once()
         → (after history.world.receiver (QueueOnce (key_of crossing parcel) new)).0 ≡ history.world.receiver }
     ensures one_parcel { (crossing : Crossing) (history : History) (one other : Parcel) → IsHistory crossing history
         → Contains history.world.shown one → Contains history.world.shown other → one.number ≡ other.number → one ≡ other }
-    ensures one_job { (crossing : Crossing) (history : History) (spool : State) (job : Job) (parcel : Parcel) → IsHistory crossing history
-        → IsSpool history spool → Contains spool.jobs job → Contains history.world.shown parcel → job.number ≡ parcel.number → parcel_of job ≡ parcel }
+    ensures one_job { (crossing : Crossing) (history : History) (copy : Copy) (job : Job) (parcel : Parcel) → IsHistory crossing history
+        → IsSpool history copy → Contains copy.spool.jobs job → Contains history.world.shown parcel → job.number ≡ parcel.number → parcel_of job ≡ parcel }
     ensures never_lost { (crossing : Crossing) (history : History) (events : List Event) (job : Job) → IsHistory crossing history → MayHappenOn crossing history events
-        → job.system ≡ crossing.to → All (IsKnown crossing history.world job) (history.world.sender ∷ history.copies) → IsNotLost crossing (history_after crossing history events).world job }
-    ensures known { (crossing : Crossing) (history : History) (spool other : State) (job : Job) → IsHistory crossing history → history.is_newest ≡ true
-        → IsSpool history spool → IsSpool history other → Contains spool.jobs job → job.system ≡ crossing.to → job.number < other.next → IsKnown crossing history.world job other }
+        → job.system ≡ crossing.to → All (IsKnown crossing history.world job) (present history ∷ history.copies) → IsNotLost crossing (history_after crossing history events).world job }
+    ensures known { (crossing : Crossing) (history : History) (copy other : Copy) (job : Job) → IsHistory crossing history → history.is_newest ≡ true
+        → IsSpool history copy → IsSpool history other → Contains copy.spool.jobs job → job.system ≡ crossing.to → job.number < other.spool.next → IsKnown crossing history.world job other }
     ensures counted_anew { (crossing : Crossing) (history : History) → IsHistory crossing history → CountsAnew history }
     ensures answered { (crossing : Crossing) (history : History) (number : ℕ) → IsHistory crossing history → Contains history.world.answered number
         → (handed : Handed) × Contains history.world.handed handed × (handed.number ≡ number) }
@@ -60,8 +62,8 @@ pub fn jobs_of_a_spool_that_was_put_back_come_once()
     ensures never_differs { (crossing : Crossing) (history : History) (parcel : Parcel) (new : NewJob) → IsHistory crossing history → Contains history.world.shown parcel
         → ¬ (verdict history.world.receiver (QueueOnce (key_of crossing parcel) new) ≡ Some Differs) }
     ensures free_or_done { (crossing : Crossing) (history : History) (job : Job) (new : NewJob) → IsHistory crossing history → history.is_newest ≡ true → history.world.is_heard ≡ true
-        → Contains history.world.sender.jobs job → job.system ≡ crossing.to → IsFree crossing history.world job new ⊎ IsDone crossing history.world job }
+        → Contains history.world.sender.jobs job → job.system ≡ crossing.to → IsFree crossing history.world job new ⊎ IsDone crossing history job }
     ensures stale_was_done { (crossing : Crossing) (history : History) (job : Job) (new : NewJob) → IsHistory crossing history → history.is_newest ≡ true → history.world.is_heard ≡ true
         → Contains history.world.sender.jobs job → job.system ≡ crossing.to → verdict history.world.receiver (QueueOnce (key_of crossing (parcel_of job)) new) ≡ Some Stale
-        → IsDone crossing history.world job }
+        → IsDone crossing history job }
 {}

@@ -8,9 +8,9 @@ returns c = record {
   apart = λ crossing history it. (lives crossing history it).holds.rising;
   unchanged = λ crossing history parcel new it queued. still_unchanged crossing history parcel new (lives crossing history it) queued;
   one_parcel = λ crossing history one other it. (lives crossing history it).one one other;
-  one_job = λ crossing history spool job parcel it there inside shown number. (lives crossing history it).shown spool there parcel job shown inside number;
+  one_job = λ crossing history copy job parcel it there inside shown number. (lives crossing history it).shown copy there parcel job shown inside number;
   never_lost = λ crossing history events job it may own all. never_lost crossing history events job (lives crossing history it) may own all;
-  known = λ crossing history spool other job it newest there inside waits own given. (lives crossing history it).known newest spool other there inside job waits own given;
+  known = λ crossing history copy other job it newest there inside waits own given. (lives crossing history it).known newest copy other there inside job waits own given;
   counted_anew = λ crossing history it. counts_anew crossing history (lives crossing history it);
   answered = λ crossing history number it there. let one = (lives crossing history it).holds.answered number there in (one.it, one.there, one.is);
   same = λ crossing history handed it there. (lives crossing history it).holds.made handed there;
