@@ -1,9 +1,8 @@
-use Rattle.std.proofs.Common.{ℕ, ◌≤◌, refl, arith}
-use Rattle.std.specs.Prelude.{max}
+use Rattle.std.proofs.Common.{refl, arith}
 use Rattle.std.proofs.lemmas.List.Elements.{All-weaker}
 use Rattle.uu_core.specs.Laws.{new_numbers}
 use Rattle.uu_renumber.specs.Renumbered.{renumbered}
-use Rattle.uu_renumber.proofs.Renumbering.{good, needless, same_verdict, same_after}
+use Rattle.uu_renumber.proofs.Renumbering.{good, above_both, needless, same_verdict, same_after}
 use Rattle.uu_renumber.proofs.laws.renumbered_spools_give_new_numbers.Goals as goal
 
 pub returns-clause-good : goal.returns-clause-good
@@ -27,4 +26,4 @@ returns-clause-queued c state number given job e =
 
 pub returns-clause-fresh : goal.returns-clause-fresh
 returns-clause-fresh c state number commands =
-    All-weaker _ _ (new_numbers (renumbered number state) commands) (λ (given : ℕ) above. (omega arith, omega arith)) (c.numbers_are_not_used_again.ensures.fresh (renumbered number state) commands)
+    All-weaker _ _ (above_both state.next number) (new_numbers (renumbered number state) commands) (c.numbers_are_not_used_again.ensures.fresh (renumbered number state) commands)
