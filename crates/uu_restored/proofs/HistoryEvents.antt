@@ -47,15 +47,12 @@ module _ (crossing : Crossing) (history : History) (h : Lives crossing history) 
     killed = h.killed;
     said = h.said;
     heard = below;
-    known = λ e copy other there inside job it own given. known_on crossing world then job other (queued_on (parcel_of job)) (h.known e copy other there inside job it own given);
+    known = λ e copy other there inside job it own given. known_on crossing world then job other (queued (parcel_of job)) (h.known e copy other there inside job it own given);
     behind = λ e copy there job low it own said less. done job (h.behind e copy there job low it own said less);
   }
     where
       then : World
       then = record world { receiver = receiver; answered = answered; handed = handed; is_heard = heard }
-
-      queued_on : (parcel : Parcel) → IsQueued crossing world parcel → IsQueued crossing then parcel
-      queued_on = queued
 
       done : (job : Job) → IsDone crossing history job → IsDone crossing (record history { world = then }) job
       done job = done_on crossing history then job (λ killed. killed) (queued (parcel_of job))
