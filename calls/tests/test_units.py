@@ -184,7 +184,7 @@ class Watched(Folder):
         for active, sub, begins in (
             ("failed", "failed", "uuspool-night.service failed (exit-code), so no neighbour is called: journalctl"),
             ("inactive", "dead", "uuspool-night.service is enabled, but does not run, so no neighbour is called: systemctl start uuspool-night.service"),
-            ("activating", "auto-restart", "uuspool-night.service fails again and again (exit-code): journalctl"),
+            ("activating", "auto-restart", "uuspool-night.service ends as soon as systemd starts it, so no neighbour is called: journalctl"),
         ):
             found = self.found(night_service={"ActiveState": active, "SubState": sub, "Result": "exit-code"})
             self.assertEqual([begins], [it[: len(begins)] for it in found])
