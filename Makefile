@@ -46,36 +46,22 @@ test:
 	@tests/refused-memory
 	@scripts/prove-all --again
 
-# One after the other, on the programs that rt ci leaves. The test of refused memory waits for the
-# proved tests of a crate, too.
+# Tests of the programs that rt ci leaves, the longest first, and how many of them run at once: half as
+# many as there are processors, because the proofs go on beside them.
+RUNS = tests/operator-size tests/calls tests/attacks tests/copy-stops tests/migration-stops \
+       tests/unpack-stops tests/transcripts tests/fronts tests/bundle-exchange tests/next-calls \
+       tests/check-help tests/readme-session tests/package tests/routes tests/failing-streams \
+       tests/syncs tests/openings tests/batch-stops tests/seals tests/damaged-files tests/operate \
+       tests/limits tests/backup tests/page tests/calls-units tests/taylor tests/site
+.PHONY: $(RUNS)
+RUNS_AT_ONCE ?= $(shell echo $$((($$(nproc) + 1) / 2)))
+
+# The output of each comes when it has ended. After one that fails no other begins.
 runs:
-	@tests/check-help
-	@tests/readme-session
-	@tests/package
-	@tests/transcripts
-	@tests/next-calls
-	@tests/routes
-	@tests/failing-streams
-	@tests/syncs
-	@tests/openings
-	@tests/migration-stops
-	@tests/vacuum-stops
-	@tests/batch-stops
-	@tests/unpack-stops
-	@tests/operator-size
-	@tests/bundle-exchange
-	@tests/seals
-	@tests/damaged-files
-	@tests/operate
-	@tests/limits
-	@tests/fronts
-	@tests/backup
-	@tests/attacks
-	@tests/page
-	@tests/calls-units
-	@tests/calls
-	@tests/taylor
-	@tests/site
+	@$(MAKE) --jobs=$(RUNS_AT_ONCE) --output-sync=target $(RUNS)
+
+$(RUNS):
+	@$@
 
 install: build
 	@scripts/install build/uuspool '$(PREFIX)' '$(DESTDIR)'

@@ -4,7 +4,7 @@
 _uuspool() {
     local word=${COMP_WORDS[COMP_CWORD]} before=${COMP_WORDS[COMP_CWORD - 1]} subcommand='' at words
     local subcommands='load drop send request exec mail list show kill regrade rejuvenate due when
-        queues status systems failed done forget pack unpack settle answer map neighbours name route routes batch init site vacuum help'
+        queues status systems failed done forget pack unpack settle answer map neighbours name route routes batch init site vacuum renumber help'
     for ((at = 1; at < COMP_CWORD; at++)); do
         case ${COMP_WORDS[at]} in
         -c | --at | --as) ((at++)) ;;
@@ -29,7 +29,7 @@ _uuspool() {
     settle) words='--spool -h --help' ;;
     route | routes) words='--cost -h --help' ;;
     help) words=$subcommands ;;
-    batch | init | site | vacuum) words='' ;;
+    batch | init | site | vacuum | renumber) words='' ;;
     *) words='-h --help' ;;
     esac
     mapfile -t COMPREPLY < <(compgen -W "$words" -- "$word")

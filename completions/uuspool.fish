@@ -1,7 +1,7 @@
 # What fish offers behind `uuspool`: subcommands, and the options of each.
 
 set -l subcommands load drop send request exec mail list show kill regrade rejuvenate due \
-    when queues status systems failed done forget pack unpack settle answer map neighbours name route routes batch init site vacuum help
+    when queues status systems failed done forget pack unpack settle answer map neighbours name route routes batch init site vacuum renumber help
 set -l queuing send request exec mail
 set -l none "not __fish_seen_subcommand_from $subcommands"
 set -l has __fish_seen_subcommand_from
@@ -45,6 +45,7 @@ complete -c uuspool -n $none -a batch -d 'Reads requests from standard input and
 complete -c uuspool -n $none -a init -d 'Makes the spool of a site'
 complete -c uuspool -n $none -a site -d 'Prints where the site is: its name, settings, folder, spool and log'
 complete -c uuspool -n $none -a vacuum -d "Gives back the room that the spool's file no longer needs"
+complete -c uuspool -n $none -a renumber -d 'Gives the next job this number, or a later one'
 complete -c uuspool -n $none -a help -d 'Print help, of a subcommand too'
 
 complete -c uuspool -n "$has $queuing" -s g -x -d "The job's grade"

@@ -11,13 +11,13 @@ refused=69 # the spool refuses it, or has no form for it
 later=75   # try again
 export LC_ALL=C
 
-# A local user may not enter the spool's folder, so he asks by sudo, which says who he is. Lines of root
-# run as the folder's owner (see below).
-spool=$bin/uuspool member='' common=/var/spool/uuspool site='' why_not=''
+# A local user may not enter the spool's folder, so he asks by sudo, which says who he is. (The user's folder isn't the
+# owner's to enter.) Lines of root run as the folder's owner (see below).
+spool=$bin/uuspool member='' as_owner='' common=/var/spool/uuspool site='' why_not=''
 most_printed=16777216 too_much=141 # the bytes that are kept of what the owner's line prints, if root asks, and its status beyond
 has_input=''                       # whether the line reads standard input
 if [ -z "${UUSPOOL_DIR-}" ] && [ -d "$common" ] && ! [ -O "$common" ] && ! [ -O uuspool.toml ] && ! [ -O / ]; then
-    member=yes spool="sudo -n -u $(stat -c %U "$common") -- $lib/for-user"
+    member=yes spool="env -C / sudo -n -u $(stat -c %U "$common") -- $lib/for-user"
 fi
 
 # If not all pieces of a file are queued, none of them stays. Each names $its_pieces. If a shell can't go on, for
@@ -148,18 +148,17 @@ act_as_owner() {
     spool=$bin/uuspool
     ! [ -O "$folder" ] || return 0
     [ "$settings" = /etc/uuspool/uuspool.toml ] || export UUSPOOL_DIR="${settings%/*}"
-    as_owner="env $(hidden) setsid -w runuser -u $(stat -L -c %U -- "$folder") -- env -C / $bin/uuspool"
-    spool=ask_as_owner
+    as_owner="$lib/as-owner $(stat -L -c %U -- "$folder")" spool=ask_as_owner
 }
 
-# Runs a line as the owner. Whatever else this user runs may take its open files from it. So it gets no terminal of root's, and no
-# input but that of a job. That may also write into its pipe, so no more of it is kept than fits: the status is $too_much then.
+# Runs a line as the owner, with no input but that of a job. Whatever else the owner runs may write into its pipe, so no more of it
+# is kept than fits: the status is $too_much then.
 ask_as_owner() {
     {
         ended=$({ {
-            if [ -z "$has_input" ] || [ -t 0 ]; then exec </dev/null; fi
+            [ -n "$has_input" ] || exec </dev/null
             if [ -p /dev/fd/2 ]; then exec 2>&1; else exec 2>/dev/null; fi
-            $as_owner "$@" 3>&- 4>&- 5>&- 6>&- 7>&- 8>&- 9>&-
+            $as_owner "$bin/uuspool" "$@"
             echo "$?" >&4
         } | {
             head -c "$most_printed" >&3
@@ -174,14 +173,6 @@ ask_as_owner() {
 no_site() {
     plainly "$why_not" >&2
     return 5
-}
-
-# Options of `env` by which the owner gets nothing else of root's environment, which may have passwords.
-hidden() {
-    awk 'BEGIN {
-        for (name in ENVIRON)
-            if (name ~ /^[A-Za-z_][A-Za-z0-9_]*$/ && name !~ /^(PATH|HOME|TERM|LANG|TZ|TMPDIR|(LC|UUSPOOL|UUCICO)_.*)$/) print "-u", name
-    }'
 }
 
 # Settings that a user may write lead root to no site of somebody else.

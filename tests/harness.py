@@ -18,7 +18,7 @@ TOP = os.path.dirname(os.path.dirname(os.path.realpath(__file__)))
 # What rt ci leaves: a program of each compiler.
 PROGRAMS = tuple(f"{TOP}/crates/uuspool_main/out/{name}" for name in ("uuspool_main", "uuspool_main.by-rattle"))
 SETTINGS = f"{TOP}/examples/uuspool.toml"
-LIMIT = 60  # seconds for one run of the program
+LIMIT = 300  # seconds for one run of the program
 FILES = ("spool.db", "spool.db-wal")
 WORD = "-"  # the word of a test's spool, so that its bundles are the same each time
 KEPT = ("database", "log")  # the same files in a folder of tests/spools
@@ -76,7 +76,7 @@ def same(what, wanted, found):
         raise Wrong(f"{what}:\n  wanted {str(wanted)[:600]}\n  found  {str(found)[:600]}")
 
 
-def wait_for(what, look, limit=30):
+def wait_for(what, look, limit=120):
     """Waits until something is so. Wrong if it isn't after so many seconds."""
     ends = time.monotonic() + limit
     while not look():

@@ -10,7 +10,7 @@ from harness import LIMIT
 
 # main handles these itself; they aren't subcommands of a batch. The first has a line of its own in the help.
 BY_MAIN = {"batch"}
-BY_COMMAND = {"init", "site", "vacuum"}
+BY_COMMAND = {"init", "site", "vacuum", "renumber"}
 
 
 class Help:

@@ -58,6 +58,15 @@ class Bundles(unittest.TestCase):
         self.assertTrue(100 <= len(list(bundle.offers_in(front))) < 200)
         self.assertEqual(text, bundle.front(text, 499))
 
+    def test_a_front_says_once_what_becomes_of_a_job(self) -> None:
+        first, other = (bundles.job(b"a", b"b", 1, b"N", b"ann", b"exec rmail " + it, b"\nno 1 1 Stale\n") for it in (b"joe", b"eve"))
+        said = bundles.has(1, 1) + bundles.has(1, 1), bundles.no(1, 1, b"Stale"), bundles.no(2, 1, b"Stale"), first
+        whole = bundles.bundle(b"a", b"b", 1, *said)
+        self.assertEqual(whole, bundle.front(whole, 9))
+        for more in bundles.no(1, 1, b"Stale"), bundles.no(2, 2, b"Differs"), first, other:
+            text = bundles.bundle(b"a", b"b", 1, *said, *[more] * 3, bundles.job(b"a", b"b", 2, b"N", b"ann", b"exec rmail joe", b""))
+            self.assertEqual(whole.removesuffix(b"end\n"), bundle.front(text, 9))
+
     def test_bytes_of_a_job_are_no_record(self) -> None:
         text = bundles.bundle(b"a", b"b", 1, bundles.job(b"a", b"b", 1, b"N", b"ann", b"send /x ~/x", b"\njob 9 9 N u 0 send a b\n\nend\n"))
         self.assertEqual([1], [it.number for it in bundle.offers_in(text)])

@@ -542,9 +542,10 @@ class Entering(Folder):
             for words, keeps, wanted in (None, (), ["-n", "duke"]), (["x"], (0,), ["x"]):
                 with self.assertRaises(SystemExit) as raised:
                     enter(session, words, keeps)
-                line = ["setsid", "-w", "runuser", "-u", "nobody", "--", os.path.realpath("/bin/true"), *wanted]
-                self.assertEqual((3, mock.call(line, mock.ANY, keeps)), (raised.exception.code, relayed.call_args))
-                self.assertEqual(self.folder, relayed.call_args.args[1]["UUSPOOL_DIR"])
+                self.assertEqual((3, mock.call(mock.ANY, keeps)), (raised.exception.code, relayed.call_args))
+                program = relayed.call_args.args[0]
+                self.assertEqual(([os.path.realpath("/bin/true"), *wanted], "/"), (program.words, program.folder))
+                self.assertEqual(self.folder, program.environment["UUSPOOL_DIR"])
 
     def test_another_users_program_fills_no_memory(self) -> None:
         session = Quiet(self.folder)

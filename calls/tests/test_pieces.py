@@ -407,7 +407,7 @@ class HandedOn(Refused):
         self.put("etc/forward", "a unc phs\n")
         data = b"Subject: x\n\n" + bytes(2_000_000)
         length, file = 1 << 20, f"{hashlib.sha256(data).hexdigest()}.{len(data)}.{1 << 20}.m"
-        for addresses, hop in (("unc!joe", "unc!phs!eve"), ("joe", "phs!eve")), (("unc!joe", "phs!joe"), ()), (("joe",), ()):
+        for addresses, hop in (("unc!joe", "unc!phs!eve"), ("joe", "phs!eve")), (("mysite!unc!joe", "unc!bob"), ("joe", "bob")), (("unc!joe", "phs!joe"), ()), (("joe",), ()):
             self.spool.asked = []
             for at in range(0, len(data), length):
                 self.number += 1
@@ -425,9 +425,11 @@ class HandedOn(Refused):
 
     def test_an_address_that_is_an_option_at_the_next_hop(self) -> None:
         self.put("etc/forward", "a unc *\n")
-        self.spool.parcels[1] = parcel("1 mysite a!ann B 2026-11-28 10:00:00 5 exec rmail unc!joe unc!-oX")
-        self.assertEqual(0, self.deliverer.deliver(1))
-        self.assertRegex(self.log[0], "refused-for-good -oX, which is no user of unc, would be an option there")
+        whys = "-oX, which is no user of unc, would be an option there", "mysite lets no word of rmail begin with a hyphen: -oX"
+        for address, why in zip(("unc!-oX", "mysite!-oX"), whys):
+            self.spool.parcels[1] = parcel(f"1 mysite a!ann B 2026-11-28 10:00:00 5 exec rmail unc!joe {address}")
+            self.assertEqual(0, self.deliverer.deliver(1))
+            self.assertIn(f"refused-for-good {why}", self.log[-1])
         self.assertEqual([], [it for it in self.spool.asked if it[0] == "exec"])
 
     def test_mail_that_is_queued_again_is_the_same_file(self) -> None:
@@ -495,6 +497,33 @@ class Going(Folder):
         with mock.patch("os.pread", side_effect=growing):
             asked = self.queue(bytes((1 << 20) + 1))
         self.assertEqual((["0", "1000000"], "1048577"), ([it[-4] for it in asked], asked[0][5].split(".")[1]))
+
+    def test_no_piece_is_queued_without_room_for_all(self) -> None:
+        self.site.settings = self.site.settings._replace(limit=4_000_000)
+        spool = self.site.settings.spool
+        os.makedirs(os.path.dirname(spool), exist_ok=True)
+        for pages, free, size, why in (
+            (0, 0, 3_800_000, ""), (0, 0, 3_800_001, "takes files of 3800000 bytes at most: its limit is 4000000"), (900, 400, 1_752_000, ""),
+            (900, 400, 1_752_001, "/f has 1752001 bytes, and the spool of mysite has room for 1752000 bytes of a file: it goes once calls"), (999, 0, 1_048_577, "has room for 0 bytes"),
+        ):  # fmt: skip
+            with open(spool, "wb") as file:
+                file.write(bytes(36) + free.to_bytes(4, "big"))
+                file.truncate(pages * 4096)
+            if not why:
+                self.assertEqual(-(-size // 1_000_000), len(self.queue(bytes(size))))
+                continue
+            with self.assertRaisesRegex(Refusal if "at most" in why else Delay, why):
+                self.queue(bytes(size))
+            self.assertEqual([], self.spool.asked)
+        self.assertEqual(1, len(self.queue(bytes(1 << 20))))
+
+    def test_what_waits_needs_no_room_again(self) -> None:
+        data = bytes(2_500_000)
+        asked = self.queue(data)
+        for number, words in enumerate(asked[:2], 1):
+            self.spool.parcels[number] = parcel(f"{number} duke duke!ann B 2026-11-28 10:00:00 5 exec {' '.join(words[4:])}")
+        self.site.settings = self.site.settings._replace(limit=600_000)
+        self.assertEqual(asked[2:], self.queue(data))
 
     def test_as_a_job_or_in_pieces(self) -> None:
         self.assertEqual([("send", "-gB", "--once=mysite!7!request", "--", "duke", "~/f", "~/g")], self.queue(bytes(1 << 20)))

@@ -293,34 +293,73 @@ class Forwarding(Folder):
             self.assertFalse(self.is_taken(address), address)
         self.assertTrue(self.is_taken("joe@c.example", "hub"))
         self.assertFalse(self.is_taken("unc!joe", "phs"))
+        for address in "mysite!unc!joe", "mysite!mysite!joe", "mysite!joe@b.example":
+            self.assertTrue(self.is_taken(address), address)
+        for address in "mysite!mysite!phs!joe", "mysite!", "mysite!-oX", "mysite!|id":
+            self.assertFalse(self.is_taken(address), address)
+
+    def test_what_is_behind_the_own_name(self) -> None:
+        for address, rest in ("mysite!unc!joe", "unc!joe"), ("mysite!mysite!joe", "joe"), ("mysite!", "mysite!"), ("unc!mysite!joe", "unc!mysite!joe"), ("joe", "joe"), ("mysite2!joe", "mysite2!joe"):
+            self.assertEqual(rest, forward.behind("mysite", address))
 
     def test_what_the_spool_hands_on(self) -> None:
         self.assertEqual([("unc",), (), ()], [forward.read(self.path, it).systems for it in ("duke", "hub", "phs")])
 
 
 class Envelopes(Folder):
-    def signed(self, data: bytes, user: str = "duke!ann") -> bytes:
+    def signed(self, data: bytes, user: str = "duke!ann", most: int = 1000) -> bytes:
         with memory_file(data) as content, envelope.signed(self.mail(content, user), self.folder) as given:
-            return os.pread(given, 1000, 0)
+            return os.pread(given, most, 0)
 
     def mail(self, content: int, user: str = "duke!ann") -> Delivered:
         return Delivered("exec", ("rmail", "joe"), content, "duke", user, "mysite!7!2026-11-08.09:30:00")
 
     def test_the_first_line_says_from_which_neighbour(self) -> None:
         honest = b"From ann Sat Nov 28 12:00:00 2026 remote from duke\n>From joe x remote from unc\n\nhello"
-        for line in honest, b"From ann remote from duke\n", b"From a~\xa0\xff remote from duke\n":
+        for line in honest, b"From ann remote from duke\n", b"From a!b+c=d remote from duke\n>from x<y>\nFrom z\n":
             self.assertEqual(line, self.signed(line))
         for text, rest in (
             (b"From president x remote from unc\nhello", b">From president x remote from unc\nhello"),
             (b"From president remote from unc remote from duke\nhello", b">From president remote from unc remote from duke\nhello"),
-            (b">From x remote from unc\n", b">From x remote from unc\n"), (b"hello", b"hello"), (b"", b""), (b"From x remote from aduke", b">From x remote from aduke"),
-            *((line, b">" + line) for line in (b"From remote from duke\n>From president x", b"From  remote from duke\nx", b"From a x\0 remote from duke\nx", b"From a\tremote from duke\nx")),
-            *((b"From a%cx remote from duke\nx" % it, b">From a%cx remote from duke\nx" % it) for it in (27, 31, 127, 128, 155, 159)),
+            (b">From x remote from unc\n", b">From x remote from unc\n"), (b"hello", b"hello"), (b"", b""), (b"From x remote from aduke", b">From x remote from aduke\n"),
+            (b"From remote from duke\n>From president x", b">From remote from duke\n>From president x\n"), (b"From  remote from duke\nx", b">From  remote from duke\nx"),
+            (b"From a\tremote from duke\nx", b">From a_remote from duke\nx"),
         ):  # fmt: skip
             first, _, after = self.signed(text).partition(b"\n")
             self.assertRegex(first, rb"^From ann [A-Z][a-z]{2} [A-Z][a-z]{2} [ \d]\d \d\d:\d\d:\d\d \d{4} remote from duke$")
             self.assertEqual(rest, after)
         self.assertEqual(b"From a!b Sun Nov  8 09:30:00 2026 remote from duke\n", self.signed(b"", "duke!a!b"))
+
+    def test_users_are_paths_of_plain_words(self) -> None:
+        for user, path in (
+            ("ann", "ann"), ("a!b", "a!b"), ("SRS0=x=y.z+w~'&#^_-@b.example", "b.example!SRS0=x=y.z+w~'&#^_-"), ("a!joe@b.example", "a!b.example!joe"),
+            ("x<ann@mysite>", "mysite_!x_ann"), ('"ann"(x)@a@b', "b!_ann__x__a"), ("@a,@b:ann@mysite", "mysite!_a__b_ann"), ("ann%mysite", "ann_mysite"), ("|id", "_id"),
+            ("${run{id}}", "__run_id__"), ("-oX", "oX"), ("a!--b", "a!b"), ("!!a!!b!", "a!b"), ("/etc/x;`id`", "_etc_x__id_"), ("@", ""), ("a\x9bb\udce9\xe9", "a_b__"), ("", ""),
+        ):  # fmt: skip
+            self.assertEqual(path, envelope.plain_user(user), user)
+
+    def test_no_line_of_the_envelope_has_another_address(self) -> None:
+        head = b"From ann x remote from duke\n"
+        self.assertTrue(self.signed(b"hello", "duke!x<ann@mysite>").startswith(b"From mysite_!x_ann Sun Nov  8 "))
+        self.assertTrue(self.signed(b"hello", "duke!@").startswith(b"From uucp Sun Nov  8 "))
+        for text, given in (
+            (b"From x<ann@mysite> a remote from duke\nhello", b"From mysite_!x_ann a remote from duke\nhello"),
+            (b"From joe@b.example a remote from duke\nhello", b"From b.example!joe a remote from duke\nhello"),
+            (b"From a~\xa0\xff x\0\x1b remote from duke\n", b"From a~__ x__ remote from duke\n"),
+            (head + b">From x<ann@mysite> y\n>From z remote from a<ann@mysite>\n\n<a@b>\n>From x<y>\n", head + b">From mysite_!x_ann y\n>From z remote from a_ann_mysite_\n\n<a@b>\n>From x<y>\n"),
+        ):  # fmt: skip
+            self.assertEqual(given, self.signed(text))
+
+    def test_lines_without_end_are_refused(self) -> None:
+        line = b"From ann remote from duke\n"
+        for text in b"From " + b"x" * (1 << 16), line + b">From x\n" * (1 << 13), line + b">From " + b"x" * (1 << 16), *(line[:-1] + b"x" * more + b"\n" + b">From x\n" * 8188 + b">From y" for more in range(6)):
+            with self.assertRaisesRegex(Refusal, "have more than 64 KiB"):
+                self.signed(text)
+        self.assertEqual(b"x" * 6, self.signed(line + b">From x\n" * 8188 + b"x" * 6, most=1 << 17)[-6:])
+
+    def test_mail_that_is_handed_on(self) -> None:
+        with memory_file(b"From a x remote from duke\n\n") as content, envelope.handed_on(self.mail(content, "duke!x<b@c>"), "mysite", self.folder) as given:
+            self.assertEqual(b"From duke!c_!x_b Sun Nov  8 09:30:00 2026 remote from mysite\n>From a x remote from duke\n\n", os.pread(given, 1000, 0))
 
     def test_large_mail_has_no_name(self) -> None:
         with memory_file(bytes(1_048_577)) as content, envelope.signed(self.mail(content), self.folder) as given:

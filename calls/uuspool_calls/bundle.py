@@ -11,6 +11,7 @@ MOST_UNSEALED = 4_194_304
 MOST_OF_A_JOB = 1_048_576
 _PIECE = rb"piece ([0-9]{1,4}) [0-9a-f]{64}\n"
 _MOST_DIGITS = 19  # of a mark
+_MOST_OF_AN_ABOUT = 20  # bytes of a kind of record and a number
 
 
 def mark(text: bytes) -> int:
@@ -63,19 +64,22 @@ def ends_in(text: bytes) -> Iterator[tuple[int, int]]:
     return ((end * len(text) // len(said), offer.number) for end, offer in _placed(said))
 
 
+def _records(text: bytes) -> Iterator[tuple[int, int, Offer | None]]:
+    """Where each record in what a bundle says begins and ends, up to the first that isn't whole, and its job, if it has one."""
+    end = text.find(b"\n") + 1
+    while end and (line_end := text.find(b"\n", end)) >= 0:
+        begin, end, offer = end, line_end + 1, None
+        if not text.startswith((b"has ", b"no "), begin):
+            words = text[begin:line_end].decode(errors="surrogateescape").split(" ")
+            if (offer := _offer(words, text, end)) is None:
+                return
+            end += len(offer.data) + 1
+        yield begin, end, offer
+
+
 def _placed(text: bytes) -> Iterator[tuple[int, Offer]]:
     """The jobs in what a bundle says, each with its end."""
-    place = text.find(b"\n") + 1
-    while place and (end := text.find(b"\n", place)) >= 0:
-        words = text[place:end].decode(errors="surrogateescape").split(" ")
-        place = end + 1
-        if words[0] in ("has", "no"):
-            continue
-        offer = _offer(words, text, place)
-        if offer is None:
-            return
-        place += len(offer.data) + 1
-        yield place, offer
+    return ((end, offer) for _, end, offer in _records(text) if offer)
 
 
 def _offer(words: list[str], text: bytes, place: int) -> Offer | None:
@@ -91,16 +95,31 @@ def _offer(words: list[str], text: bytes, place: int) -> Offer | None:
 
 
 def front(text: bytes, most: int) -> bytes:
-    """A bundle without what stands behind so many jobs, which counts as one that was cut off. (One that is sealed ends with a
-    whole piece, so a few more jobs may be in it.)"""
+    """A bundle without what stands behind so many jobs, or behind the first record that says again what becomes of a job: it
+    counts as one that was cut off. (The log has a line for each record. A bundle that is sealed ends with a whole piece, so a
+    few more may be in it.)"""
     said = said_in(text)
-    if said.count(b"\njob ") <= most:  # (a job's bytes may have such lines)
+    end = _end_of_front(said, most)
+    if end is None:
         return text
-    ends = [end for (end, _), _ in zip(_placed(said), range(most))]
-    last = ends[-1] if ends else said.index(b"\njob ") + 1
-    if said[last:] == b"end\n":
-        return text
-    return said[:last] if said is text else text[: _end_in_pieces(text, last)]
+    return said[:end] if said is text else text[: _end_in_pieces(text, end)]
+
+
+def _end_of_front(said: bytes, most: int) -> int | None:
+    may_have = said.count(b"\njob ")  # (a job's bytes may have such lines)
+    if may_have < 2 and b"\nno " not in said:
+        return None
+    known: set[bytes] = set()
+    jobs, end = 0, said.find(b"\n") + 1
+    for begin, end, offer in _records(said):
+        if said.startswith(b"has ", begin):
+            continue  # (the program skips one whose number doesn't rise)
+        about = b" ".join(said[begin : begin + _MOST_OF_AN_ABOUT].split(b" ", 2)[:2])
+        if about in known or (offer and jobs == most):
+            return begin
+        known.add(about)
+        jobs += offer is not None
+    return end if may_have > most and said[end:] != b"end\n" else None
 
 
 def _end_in_pieces(text: bytes, length: int) -> int:

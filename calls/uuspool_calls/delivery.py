@@ -147,8 +147,13 @@ class Delivery:
                 file.set_aside(self._refused, why)
         return True
 
-    def _command(self, job: Delivered) -> commands.Command:
+    def _words(self, job: Delivered) -> list[str]:
+        """The words of a command. What comes for this site's own name and a path is for that path."""
         name, *words = job.words
+        return [forward.behind(self._own, it) for it in words] if job.sender and name == MAIL else words
+
+    def _command(self, job: Delivered) -> commands.Command:
+        name, words = job.words[0], self._words(job)
         path = f"{self._session.etc}/commands"
         command = commands.find(path, name, self._own)
         command.expect_allowed(self._own, job.sender, words, path)
@@ -159,7 +164,7 @@ class Delivery:
         return command
 
     def _run(self, job: Delivered) -> None:
-        name, *words = job.words
+        name, words = job.words[0], self._words(job)
         command = self._command(job)
         if job.sender and name == MAIL and (hop := forward.next_hop(f"{self._session.etc}/forward", job.sender, words)):
             rest = [word.removeprefix(f"{hop}!") for word in words]
@@ -168,7 +173,7 @@ class Delivery:
             with envelope.handed_on(job, self._own, self._folder) as content:
                 self._hand_on(hop, job._replace(words=(name, *rest), content=content))
             return
-        environment = {**self._environment, **job.environment()}
+        environment = {**self._environment, **job.environment(), "UUSPOOL_USER": _user_of(job)}
         path = f"{self._session.etc}/commands"
         limit = command.seconds(self._limit, path)
         first = partial(works.note, job.working) if job.working else None
@@ -208,6 +213,11 @@ def _given(job: Delivered, folder: str) -> Iterator[int]:
             yield content
     else:
         yield job.content
+
+
+def _user_of(job: Delivered) -> str:
+    """The user of a job, as a program may give it to a mailer."""
+    return envelope.plain_user(job.user) if job.sender else job.user
 
 
 def _other(path: str, put: str) -> str:

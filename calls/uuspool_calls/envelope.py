@@ -1,55 +1,95 @@
 """The envelope of mail that a neighbour brings: its first line says from which neighbour the mail came, which is true
-whatever the neighbour wrote. The lines before it become `>From`, as RFC 976 has it."""
+whatever the neighbour wrote. The lines before it become `>From`, as RFC 976 has it. The users in these lines are paths of
+plain words, in which no mailer finds another address."""
 import contextlib
+import itertools
 import os
 import time
-from collections.abc import Iterator
+from collections.abc import Iterator, Sequence
 
 from . import clock, files
 from .bundle import MOST_OF_A_JOB
+from .errors import Refusal
 from .jobs import Delivered
 
-_MOST_OF_A_LINE = 1 << 16  # bytes
+_MOST = 1 << 16  # bytes of these lines
+_BEGINS = b"From ", b">From "
+_OF_WORDS = frozenset("ABCDEFGHIJKLMNOPQRSTUVWXYZabcdefghijklmnopqrstuvwxyz0123456789._+=&'~#^-")
+_OF_LINES = _OF_WORDS | frozenset(" !:")
+
+
+def plain_user(user: str) -> str:
+    """A user as a path of plain words. `joe@domain` is `domain!joe`, as RFC 976 has it, and any other sign, by which a mailer
+    may find another address, a program, a file or an option, is `_`."""
+    path, _, last = user.rpartition("!")
+    local, _, domain = last.rpartition("@")
+    words = (it.lstrip("-") for it in (*path.split("!"), domain, local))
+    return "!".join(_plain(it, _OF_WORDS) for it in words if it)
+
+
+def _plain(text: str, kept: frozenset[str]) -> str:
+    return "".join(sign if sign in kept else "_" for sign in text)
 
 
 @contextlib.contextmanager
 def signed(job: Delivered, folder: str) -> Iterator[int]:
     """The open file of mail from a neighbour's user with such a first line, or the file itself if it has it. It is the same
     if the mail is delivered again. Mail that is larger than a job is on the disk of a folder, and has no name there."""
-    first, end, _ = os.pread(job.content, _MOST_OF_A_LINE, 0).partition(b"\n")
-    if end and _is_signed(first, job.sender):
+    lines, length = _lines_of(job.content)
+    if not lines or not _is_signed(lines[0], job.sender):
+        lines.insert(0, _line(job, plain_user(job.user.removeprefix(f"{job.sender}!")) or "uucp", job.sender))
+    if _text(lines) == os.pread(job.content, length, 0):
         yield job.content
         return
-    with _behind(_line(job, job.user.removeprefix(f"{job.sender}!") or "uucp", job.sender), job, folder) as whole:
+    with _rewritten(lines, length, job, folder) as whole:
         yield whole
 
 
 def handed_on(job: Delivered, own: str, folder: str) -> contextlib.AbstractContextManager[int]:
-    """The same for mail that goes on to the next site, to which it comes from this one. (The program writes the same line before
+    """The same for mail that goes on to the next site, to which it comes from this one. (The program writes such a line before
     what it hands on itself.)"""
-    return _behind(_line(job, job.user, own), job, folder)
+    lines, length = _lines_of(job.content)
+    return _rewritten([_line(job, plain_user(job.user), own), *lines], length, job, folder)
 
 
 @contextlib.contextmanager
-def _behind(line: bytes, job: Delivered, folder: str) -> Iterator[int]:
-    """The open file of a line, and then the mail."""
-    sign = b">" if os.pread(job.content, 5, 0) == b"From " else b""
+def _rewritten(lines: Sequence[str], length: int, job: Delivered, folder: str) -> Iterator[int]:
+    """The open file of these lines, and then the mail behind its own ones."""
     is_large = os.fstat(job.content).st_size > MOST_OF_A_JOB
     with files.nameless_file(folder) if is_large else files.memory_file(b"") as whole:
-        files.write_all(whole, line + sign)
-        files.copy_all(job.content, whole)
+        files.write_all(whole, _text(lines))
+        files.copy_all(job.content, whole, length)
         os.lseek(whole, 0, os.SEEK_SET)
         yield whole
 
 
-def _is_signed(first: bytes, neighbour: str) -> bool:
+def _lines_of(content: int) -> tuple[list[str], int]:
+    """The lines with which mail begins, as this site writes them, and how many bytes they have. (sendmail's rmail takes the
+    user of the last one, so all count.)"""
+    head = os.pread(content, _MOST, 0)
+    lines = list(itertools.takewhile(lambda it: it.startswith(_BEGINS), head.split(b"\n")))
+    length = min(sum(len(it) + 1 for it in lines), len(head))
+    if len(head) == _MOST and length > _MOST - len(_BEGINS[1]):
+        raise Refusal(f"the lines `From ..` before the message have more than {_MOST >> 10} KiB")
+    return [_plain_line(it.decode(errors="replace")) for it in lines], length
+
+
+def _plain_line(line: str) -> str:
+    user, _, rest = line.removeprefix(">").removeprefix("From ").partition(" ")
+    return f"From {plain_user(user)} {_plain(rest, _OF_LINES)}"
+
+
+def _text(lines: Sequence[str]) -> bytes:
+    return "\n>".join((*lines, "")).removesuffix(">").encode()
+
+
+def _is_signed(line: str, neighbour: str) -> bool:
     """Whether a line says that the mail came from a user of the neighbour. (Of two systems rmail takes the first. It takes
-    the first word for the user, and a zero for the end. A terminal obeys some of the other controls, which are also 127 to 159.)"""
-    user, blank, rest = first.removeprefix(b"From ").partition(b" ")
-    names_one = first.count(b"remote from ") == 1 and (blank + rest).endswith(f" remote from {neighbour}".encode())
-    return first.startswith(b"From ") and user != b"" and names_one and not any(it < 32 or 127 <= it < 160 for it in first)
+    the first word for the user.)"""
+    user, blank, rest = line.removeprefix("From ").partition(" ")
+    return user != "" and line.count("remote from ") == 1 and (blank + rest).endswith(f" remote from {neighbour}")
 
 
-def _line(job: Delivered, user: str, site: str) -> bytes:
+def _line(job: Delivered, user: str, site: str) -> str:
     date = time.strftime("%a %b %e %H:%M:%S %Y", time.gmtime(clock.seconds("UTC0", job.moment)))
-    return f"From {user} {date} remote from {site}\n".encode(errors="surrogateescape")
+    return f"From {user} {date} remote from {site}"

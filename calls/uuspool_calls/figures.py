@@ -16,6 +16,7 @@ _UNTOLD = ".untold"
 _PAGE = 4096  # bytes
 _FREE = slice(36, 40)  # where the head of an SQLite database has the number of its free pages
 _NEARLY = 4, 5  # of the limit: soon nothing may be added
+_SPARE = 20  # a part of the limit stays free of files in pieces: one of so many
 _Ask = Callable[..., Ended]  # a line of the program, as the spool's user
 _ODD = "uuspool printed something else than systems: try again, and see what else runs as its user"
 
@@ -45,6 +46,11 @@ class Use(NamedTuple):
     def is_high(self) -> bool:
         part, whole = _NEARLY
         return self.limit > 0 and self.used * whole > self.limit * part
+
+    @property
+    def most(self) -> int:
+        """How many bytes files in pieces may make it."""
+        return self.limit - self.limit // _SPARE
 
     def __str__(self) -> str:
         return f"{self.used * 100 // self.limit} % of the limit of {self.limit >> 20} MiB"

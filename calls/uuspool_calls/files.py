@@ -45,9 +45,8 @@ def write_all(handle: int, data: bytes) -> None:
         rest = rest[os.write(handle, rest) :]
 
 
-def copy_all(source: int, target: int) -> None:
-    """Copies a file from its beginning."""
-    place = 0
+def copy_all(source: int, target: int, place: int = 0) -> None:
+    """Copies a file from its beginning, or from a place in it."""
     while block := os.pread(source, 1 << 20, place):
         write_all(target, block)
         place += len(block)

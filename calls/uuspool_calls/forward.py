@@ -43,8 +43,15 @@ def expect_allowed(path: str, own: str, neighbour: str, addresses: Sequence[str]
     forward = read(path, neighbour)
     domains = forward.domains | _own_domains(path, own)
     for address in addresses:
-        if not (forward.is_all or _is_allowed(address.removeprefix(f"{own}!"), forward.systems, domains)):
+        if not (forward.is_all or _is_allowed(behind(own, address), forward.systems, domains)):
             raise Refusal(f"{own} takes no mail of {neighbour} for {address}, which is no user of {own}: {path} says what is handed on")
+
+
+def behind(own: str, address: str) -> str:
+    """An address without this site's own name before it, as RFC 976 has it."""
+    while (rest := address.removeprefix(f"{own}!")) not in ("", address):
+        address = rest
+    return address
 
 
 def next_hop(path: str, neighbour: str, addresses: Sequence[str]) -> str:

@@ -184,6 +184,6 @@ class TakeOver:
             self._session.print("What waits in Taylor's spool goes with Taylor's next call. The line below a job queues it here instead:")
         spool = taylor.spool() if jobs else ""
         for job in jobs:
-            line = queued_here(spool, self._owner or "uucp", job)
+            line = queued_here(self._session.library, spool, self._owner or "uucp", job)
             self._session.print(printable(f"{job.id} {job.user} {job.what}"))
             self._session.print(f"    {line}" if line else "    (no line can do that: leave it to Taylor)")

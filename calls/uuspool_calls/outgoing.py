@@ -5,7 +5,7 @@ from collections.abc import Iterator
 from . import carriers
 from .bundle import MOST_OF_A_JOB
 from .digests import sha256
-from .errors import Delay
+from .errors import Delay, Refusal
 from .pieces import SIZE, Piece
 from .site import Site
 from .values import NamedTuple
@@ -24,7 +24,7 @@ class Parcelled(NamedTuple):
 
 def queue(site: Site, what: Parcelled, content: int) -> None:
     """Queues the bytes of an open file, as a job or in pieces. If a stop comes between two pieces, this is done again, and
-    queues those that don't wait. SpoolError if the spool doesn't take it."""
+    queues those that don't wait. SpoolError if the spool doesn't take it. No piece is queued if there isn't room for all."""
     length = int(carriers.values_of(site.session, what.system).get("piece", 0))
     is_plain = what.words[0] == "exec" or len(what.words) == 3
     line = [f"--as={what.user}", "exec", f"-g{what.grade}", "--", what.system]
@@ -37,9 +37,29 @@ def queue(site: Site, what: Parcelled, content: int) -> None:
             site.spool.ask_once(*line, *words, given=content)
         return
     waiting = {job.words for job in site.spool.waiting(what.system) if job.user == what.user}
+    is_expected = False
     for piece, data in _cut(content, length or SIZE, what):
-        if tuple(piece.line()) not in waiting:
-            site.spool.ask_once(*line, *piece.line(), given=data)
+        if tuple(piece.line()) in waiting:
+            continue
+        if not is_expected:
+            _expect_room(site, what, piece)
+            is_expected = True
+        site.spool.ask_once(*line, *piece.line(), given=data)
+
+
+def _expect_room(site: Site, what: Parcelled, first: Piece) -> None:
+    """Room for the pieces from this one on. Otherwise those that fit would fill the spool, and wait without the others, while
+    nobody's mail is taken. Refusal if there never is room."""
+    from . import figures  # (most that is queued is no file in pieces)
+
+    use, rest = figures.use_of(site.settings), first.size - first.at
+    said = f"{what.words[1]} has {first.size} bytes, and the spool of {site.own}"
+    if not use.limit:
+        return
+    if rest > use.most:
+        raise Refusal(f"{said} takes files of {use.most} bytes at most: its limit is {use.limit}")
+    if use.used + rest > use.most:
+        raise Delay(f"{said} has room for {max(0, use.most - use.used)} bytes of a file: it goes once calls or deliveries made room, or with a larger limit in the settings")
 
 
 def mark_of(job: str) -> str:

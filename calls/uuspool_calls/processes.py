@@ -17,7 +17,7 @@ _BLOCK = 65536
 _STOPS = (signal.SIGHUP, signal.SIGINT, signal.SIGTERM)
 _IGNORED = (signal.SIGPIPE, signal.SIGXFSZ)  # by Python, and by no program that it runs
 _NOT_FOUND, _NOT_EXECUTABLE = 127, 126
-_MOST_HANDLES = 65536  # whoever runs this may have left some open
+_MOST_HANDLES = 1 << 20  # of a process, unless root raises fs.nr_open. Whoever runs this may have left some open
 _ADOPTS = 36  # for the kernel: processes below this one whose parents end become its children
 _LOOK = 0.5  # seconds after which whoever watches a program looks again
 
@@ -63,6 +63,12 @@ class Child:
         """Ends it."""
         with contextlib.suppress(ProcessLookupError):
             os.kill(self.pid, signal.SIGKILL)
+
+
+def _end_soon(child: Child, ends: float) -> float:
+    """Asks a program with a limit to end. The moment at which it is ended otherwise."""
+    child.terminate()
+    return min(ends, time.monotonic() + _GRACE + _MARGIN)
 
 
 def kill_group(number: int) -> None:
@@ -300,30 +306,30 @@ class Processes:
         waiting = {pipe.handle: pipe for pipe in pipes}
         too_much = stopped = False
         # (The program may stop the `timeout` that should end it.)
-        ends = time.monotonic() + program.limit + _GRACE + _MARGIN if program.limit else None
+        ends = time.monotonic() + program.limit + _GRACE + _MARGIN if program.limit else float("inf")
         with closing(os.pidfd_open(child.pid)) as end:
             while True:
                 if self._stopped and not stopped:
                     stopped = True
                     if program.limit is not None:
-                        child.terminate()
+                        ends = _end_soon(child, ends)
                 wake = [] if stopped else [self._wake]
-                left = max(0, ends - time.monotonic()) if ends else None
+                left = max(0, ends - time.monotonic()) if ends < float("inf") else None
                 ready, _, _ = select.select([*waiting, end, *wake], [], [], min(_LOOK, left or _LOOK) if watch else left)
                 if end in ready:
                     break
                 if watch:
                     watch(os.lseek(given, 0, os.SEEK_CUR), pipes[0].bytes)
-                if ends and time.monotonic() >= ends:
+                if time.monotonic() >= ends:
                     child.kill()
-                    ends = None
+                    ends = float("inf")
                 for handle in [it for it in ready if it in waiting]:
                     if not waiting[handle].read():
                         del waiting[handle]
                 if any(pipe.is_full() for pipe in pipes) and not too_much:
                     too_much = True
                     if program.ends_beyond:
-                        child.terminate()
+                        ends = _end_soon(child, ends)
         for pipe in waiting.values():
             pipe.drain()
         return too_much or any(pipe.is_full() for pipe in pipes)

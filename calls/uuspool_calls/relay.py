@@ -1,35 +1,38 @@
-"""How root's process runs a command again as another user. Whatever else this user runs may take an open file from that
-one, and read there what root types later. So it gets no terminal of root's: this process copies its output."""
+"""How root's process runs a program as another user. Whatever else this user runs may take an open file from that one: it could
+read there what root types later, or write and shorten a file of root's. So the program gets no output of root's: this process
+copies what it writes."""
 import codecs
 import contextlib
 import os
 import select
-import signal
 import stat
-from collections.abc import Mapping, Sequence
+from collections.abc import Sequence
 
-from .files import closing, write_all
-from .processes import Child, execute, handle_stops
+from .errors import Stopped
+from .files import closing
+from .processes import Child, Program, handle_stops, kill_group
 
 _BLOCK = 65536
 _MOST_OF_A_PIPE = 1 << 20  # bytes, unless root allows more
 
 
 class _Output:
-    """A terminal or a socket to which the output goes. No terminal obeys what another user writes."""
+    """Where output goes. No terminal obeys what another user writes."""
 
     def __init__(self, handle: int) -> None:
         self.handle = handle
         self.pipe, self.end = os.pipe2(os.O_CLOEXEC)
+        self.fault: OSError | None = None  # why not all of it went there
         self._decoder = codecs.getincrementaldecoder("utf-8")("replace") if os.isatty(handle) else None
 
     def copy(self) -> bool:
         """Copies what comes next. False at the end, or if nobody takes it."""
         block = os.read(self.pipe, _BLOCK)
-        with contextlib.suppress(OSError):
-            write_all(self.handle, self._shown(block))
-            return bool(block)
-        return False
+        try:
+            _write(self.handle, self._shown(block))
+        except OSError as fault:
+            self.fault = fault
+        return bool(block) and not self.fault
 
     def _shown(self, block: bytes) -> bytes:
         if not self._decoder:
@@ -45,27 +48,58 @@ class _Output:
                     break
 
 
-def run(words: Sequence[str], environment: Mapping[str, str], keeps: Sequence[int] = ()) -> int:
-    """The status of these words, which run in a session of their own. They get these streams as they are, no other input, and
-    files and pipes for their output. (If nothing is to be copied, this process becomes the program.)"""
+class _Stops:
+    """The first stop of this process is one of what it runs, which is another user's and may take no notice. The second ends both."""
+
+    def __init__(self, child: Child) -> None:
+        self._child, self._is_first = child, True
+        handle_stops(self._stop)
+
+    def _stop(self, number: int, frame: object) -> None:
+        if not self._is_first:
+            kill_group(self._child.pid)
+            self._child.kill()
+            raise Stopped
+        self._is_first = False
+        for send in os.killpg, os.kill:
+            with contextlib.suppress(ProcessLookupError):
+                send(self._child.pid, number)
+                return
+
+
+def run(program: Program, keeps: Sequence[int] = ()) -> int:
+    """The status of a program. It gets these streams as they are, no other input, and pipes for its output. If it ended well, but
+    its output couldn't be written, that is an error as if it had found that itself."""
     outputs: list[_Output] = []
     streams = [0 if 0 in keeps else os.open(os.devnull, os.O_RDONLY | os.O_CLOEXEC)]
     for handle in 1, 2:
-        streams.append(handle if handle in keeps or not _may_be_read(handle) else _output_of(handle, outputs).end)
-    if not outputs:
-        return execute(words, "/", environment, (streams[0], streams[1], streams[2]))
-    child = Child(lambda: execute(words, "/", environment, (streams[0], streams[1], streams[2])))
-    handle_stops(lambda number, frame: _stop(child))
+        streams.append(handle if handle in keeps else _output_of(handle, outputs).end)
+    child = program.start((streams[0], streams[1], streams[2]))
+    _Stops(child)
     for output in outputs:
         os.close(output.end)
     _copy(child, outputs)
-    return child.wait()
+    status = child.wait()
+    for output in outputs:
+        if output.fault and not status:
+            raise output.fault
+    return status
 
 
-def _may_be_read(handle: int) -> bool:
-    """Whether a stream goes both ways, so that one who should only write there could read."""
+def goes_both_ways(handle: int) -> bool:
+    """Whether one who should only read a stream could write there, or the other way round."""
     kind = os.fstat(handle).st_mode
     return os.isatty(handle) or stat.S_ISSOCK(kind)
+
+
+def _write(handle: int, data: bytes) -> None:
+    """Writes all bytes. (Somebody else who has this open file may have made it one for which nobody waits.)"""
+    rest = memoryview(data)
+    while rest:
+        try:
+            rest = rest[os.write(handle, rest) :]
+        except BlockingIOError:
+            select.select([], [handle], [])
 
 
 def _output_of(handle: int, outputs: list[_Output]) -> _Output:
@@ -75,15 +109,6 @@ def _output_of(handle: int, outputs: list[_Output]) -> _Output:
             return output
     outputs.append(_Output(handle))
     return outputs[-1]
-
-
-def _stop(child: Child) -> None:
-    """A stop of this process is one of what it runs. (`runuser` has HUP blocked, and kills what has TERM 2 seconds later.)"""
-    number = signal.SIGTERM if signal.getsignal(signal.SIGHUP) == signal.SIG_IGN else signal.SIGHUP
-    for send in os.killpg, os.kill:
-        with contextlib.suppress(ProcessLookupError):
-            send(child.pid, number)
-            return
 
 
 def _copy(child: Child, outputs: Sequence[_Output]) -> None:

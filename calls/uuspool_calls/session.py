@@ -4,7 +4,7 @@ import os
 import pwd
 from collections.abc import Iterator, Mapping, Sequence
 
-from .errors import LATER, USAGE, Failure
+from .errors import LATER, NOT_SET_UP, USAGE, Failure
 from .processes import Ended, Processes, Program
 from .texts import is_number
 
@@ -66,23 +66,28 @@ class Session:
         return any(os.path.isfile(path) and os.access(path, os.X_OK) for path in paths)
 
     def run_as(self, owner: str, words: Sequence[str], given: bytes | int = b"", joined: bool = False) -> Ended:
-        """Runs a program as this user, in the present folder. The terminal of root, who may run this, isn't its
-        own, because whatever else this user runs could type there. That could also write into the pipe, so another user's
-        program that writes more than fits is ended."""
-        line, environment = self.acting(owner, words)
-        if line is words:
-            return self.processes.run(Program(line, "", environment), given, joined=joined)
-        ended = self.processes.run(Program(line, "", environment, most=_MOST_OF_ANOTHER, ends_beyond=True), given, joined=joined)
+        """Runs a program as this user. Whatever else another user runs could write into the pipe, or stop the program, so that
+        one is ended when it writes more than fits, or takes longer than a call."""
+        program = Program(words, "", self.environment)
+        theirs = self.acting(owner, program)
+        if theirs is program:
+            return self.processes.run(program, given, joined=joined)
+        theirs = theirs._replace(limit=self.call_limit, most=_MOST_OF_ANOTHER, ends_beyond=True)
+        ended = self.processes.run(theirs, given, joined=joined)
         if ended.wrote_too_much:
             why = f"{words[0]}, run as {owner}, wrote more than {_MOST_OF_ANOTHER >> 20} MiB"
             raise Failure(LATER, f"{why}: try again, and see what else runs as {owner}: ps -u {owner}")
         return ended
 
-    def acting(self, owner: str, words: Sequence[str]) -> tuple[Sequence[str], Mapping[str, str]]:
-        """The words by which this user runs a program, and its environment."""
+    def acting(self, owner: str, program: Program) -> Program:
+        """A program as this user runs it: another one gets nothing of root's but its input, and what `passed` names."""
         if owner == user_name(os.geteuid()):
-            return words, self.environment
-        return ["setsid", "-w", "runuser", "-u", owner, "--", *words], self.passed()
+            return program
+        try:
+            number, group = numbers_of(owner)
+        except KeyError:
+            raise Failure(NOT_SET_UP, f"{owner}, as whom {program.words[0]} has to run, has no account") from None
+        return program._replace(folder="", environment=self.passed(), first=lambda: _become(owner, number, group))
 
     def passed(self) -> dict[str, str]:
         """What another user gets of root's environment, which may have passwords."""
@@ -113,6 +118,23 @@ def numbers_of(user: str) -> tuple[int, int]:
     """The numbers of a user and of the user's group."""
     entry = pwd.getpwnam(user)
     return entry.pw_uid, entry.pw_gid
+
+
+def _become(user: str, number: int, group: int) -> None:
+    """This process leaves root's folder, terminal and keys, and becomes a user's. (No process of that user sees what it still has
+    open, because the kernel lets nobody look into it until it becomes another program, and that closes all.)"""
+    from . import kernel  # (which only root needs)
+
+    try:
+        os.chdir("/")
+        os.setsid()
+        kernel.leave_keyring()
+        os.initgroups(user, group)
+        os.setresgid(group, group, group)
+        os.setresuid(number, number, number)
+    except OSError as error:
+        os.write(2, f"This process cannot become {user}'s: {error.strerror}\n".encode())
+        os._exit(LATER)
 
 
 @contextlib.contextmanager

@@ -8,6 +8,7 @@ from . import files, forward, settings
 from .contacts import Contacts
 from .errors import LATER, NOT_SET_UP, Failure
 from .journal import Journal
+from .processes import Program
 from .session import Session, user_name
 from .spool import Spool
 
@@ -121,8 +122,8 @@ def _expect_owner(session: Session, found: settings.Settings, words: Sequence[st
         session.environment["UUSPOOL_DIR"] = found.start
     from . import relay  # (which only root needs)
 
-    line, environment = session.acting(name, [os.path.realpath(sys.argv[0]), *words])
-    raise SystemExit(relay.run(line, environment, keeps))
+    program = Program([os.path.realpath(sys.argv[0]), *words], "/", session.environment)
+    raise SystemExit(relay.run(session.acting(name, program), keeps))
 
 
 def has_bytes(path: str) -> bool:

@@ -160,10 +160,10 @@ def lines_in(text: str) -> Iterator[Line]:
 # ---- what waits in Taylor's spool
 
 
-def queued_here(spool: str, owner: str, job: Waiting) -> str:
+def queued_here(library: str, spool: str, owner: str, job: Waiting) -> str:
     """The line of a shell that queues a job of Taylor's spool here, and takes it out there. Nothing if no line does. root
     types it, so the spool's user opens the file of the bytes, which is Taylor's copy, and runs Taylor's program, a file of this
-    user, which gets no terminal. (A file that Taylor didn't copy is its sender's, who may put a link there.)"""
+    user, which gets nothing of root's. (A file that Taylor didn't copy is its sender's, who may put a link there.)"""
     gap = f"{job.system}."
     if not is_name(job.system) or not is_name(job.id) or not job.id.startswith(gap):
         return ""
@@ -178,7 +178,8 @@ def queued_here(spool: str, owner: str, job: Waiting) -> str:
     kind, *rest = queued
     line = " ".join(map(_quoted, ["uuspool", f"--as={words[3]}", kind, f"-g{grade}", "--", job.system, *rest]))
     given = f" <{_quoted(f'{spool}/{job.system}/D./{data}')}" if data else ""
-    return f"setsid -w runuser -u {_quoted(owner)} -- sh -c {_quoted(f'{line}{given} && uustat -k {_quoted(job.id)}')} </dev/null 2>&1 | cat -v"
+    its_line = _quoted(f"{line}{given} && uustat -k {_quoted(job.id)}")
+    return f"{_quoted(f'{library}/as-owner')} {_quoted(owner)} sh -c {its_line} </dev/null 2>&1 | cat -v"
 
 
 def _task(words: Sequence[str]) -> tuple[list[str], str]:

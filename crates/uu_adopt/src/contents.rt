@@ -2,6 +2,7 @@
 ghost use Rattle.std.specs.Prelude.{◌≡◌, IfOk, IsSomeAnd};
 ghost use Rattle.sqlite.specs.Tree.{Trees};
 ghost use Rattle.uu_core.specs.State.{State, empty};
+ghost use Rattle.uu_renumber.specs.Renumbered.{renumbered};
 ghost use Rattle.uu_tables.specs.Changes.{applied};
 ghost use Rattle.uu_tables.specs.Tables.{tables_of};
 ghost use Rattle.uu_schema.specs.declared.version.Version.{Version};
@@ -16,6 +17,7 @@ use crate::spool::read_next;
 use sqlite::{Alter, Connection, Error};
 use std::alloc::Global;
 use uu_core::JobHead;
+use uu_renumber::laws::renumbered_spools_give_new_numbers;
 use uu_rows::{RowFault, ask, read_rows};
 use uu_schema::Version;
 use uu_tables::{Body, Change, EntryColumns, LinkColumns, SystemColumns, TakenColumns};
@@ -53,6 +55,23 @@ impl Contents {
             taken: &self.taken,
         };
         changes_of(alloc, &rows)
+    }
+
+    /// The number of the next job.
+    pub fn next(&self) -> u32
+        ensures { (s : State) → AreContentsOf s self.now → result ≡ s.next }
+    {
+        self.next
+    }
+
+    /// Gives the next job this number, unless it would get a higher one. All else stays.
+    pub fn renumber(&mut self, number: u32)
+        ensures { (s : State) → AreContentsOf s self.old → AreContentsOf (renumbered number s) self.new }
+    {
+        renumbered_spools_give_new_numbers();
+        if self.next < number {
+            self.next = number;
+        }
     }
 
     /// About how many bytes of a file the rows take.

@@ -142,6 +142,7 @@ impl<D: Disk> Disk for SpoolDisk<D> {
         ensures mixed { IsTrue (D.Disk.is_mixing (inner_of self.old)) → at + length bytes.now < 2 ^ 64 → Follows (Mixed at bytes.now) (left_by self.old) (left_by self.new) }
         ensures crash { Follows (Torn at (length bytes.now)) (left_by self.old) (left_by self.new) }
         ensures limited { IsSomeAnd (most_of self.old) (λ last. HasPageBeyond last at bytes.now) → IsErr result × (inner_of self.new ≡ inner_of self.old) }
+        ensures admitted { ¬ IsSomeAnd (most_of self.old) (λ last. HasPageBeyond last at bytes.now) → CountsFault result (D.Disk.faults (inner_of self.old)) (D.Disk.faults (inner_of self.new)) }
         ensures most { most_of self.new ≡ most_of self.old }
     {
         admit(self.most, &mut self.refused, at, bytes)?;
@@ -162,6 +163,7 @@ impl<D: Disk> Disk for SpoolDisk<D> {
         ensures key { D.Disk.key_of (inner_of self.new) ≡ D.Disk.key_of (inner_of self.old) }
         ensures usable { IsTrue (D.Disk.is_usable (inner_of self.new)) }
         ensures crash { Follows (Cut len) (left_by self.old) (left_by self.new) }
+        ensures admitted { CountsFault result (D.Disk.faults (inner_of self.old)) (D.Disk.faults (inner_of self.new)) }
         ensures most { most_of self.new ≡ most_of self.old }
     {
         self.dirty = true;

@@ -9,6 +9,7 @@ use Rattle.std.proofs.lemmas.List.Elements.{All-push, All-weaker, All-contains, 
 use Rattle.uu_names.proofs.Basics.{first_of, later_of, first_or_later, in_filter, from_filter, passing_one, filter_none, and_first, and_second, all_from}
 use Rattle.uu_core.proofs.RunLemmas.{next-after}
 use Rattle.uu_core.specs.declared.command.Command.{Command}
+use Rattle.uu_core.specs.declared.command.Command.TheVariants.{Forget}
 use Rattle.uu_core.specs.declared.command.Reply.{Reply}
 use Rattle.uu_core.specs.declared.command.Reply.TheVariants.{Number, Refused}
 use Rattle.uu_core.specs.declared.custody.HandIn.TheVariants.{First}
@@ -66,6 +67,18 @@ pub record Holds (crossing : Crossing) (world : World) : Type 0 where
   pub answered : (number : ℕ) → Contains world.answered number → IsIn world.handed number
   pub said : All (IsLeast crossing world.sender) world.said
   pub heard : world.is_heard ≡ true → IsLeast crossing world.sender (kept_of crossing world).below
+
+-- ---- what the receiver may forget
+
+-- what it forgets of the sender is not above everything that the sender said
+pub said_above : (crossing : Crossing) (world : World) (system : List ℕ) (below : ℕ) → system ≡ crossing.from → was_said crossing world (Forget system below) ≡ true → (said : ℕ) × Contains world.said said × (below ≤ said)
+said_above crossing world system below own e =
+    let one = passing_one (λ said. leb below said) world.said (second (same_text system crossing.from) (list_any (λ said. leb below said) world.said) ((bytes_decides system crossing.from).1 own) e) in
+    (one.0, one.1, leb-true below one.0 one.2)
+  where
+    second : (a b : Bool) → a ≡ true → not a || b ≡ true → b ≡ true
+    second true b e f = f
+    second false b e f = absurd (cc)
 
 -- ---- the sender's steps
 
@@ -170,16 +183,8 @@ module _ (crossing : Crossing) (world : World) (h : Holds crossing world) where
 
           told : was_said crossing world command ≡ true → IsLeast crossing world.sender below
           told e =
-              let f : not (same_text system crossing.from) || list_any (λ said. leb below said) world.said ≡ true = subst (λ c. was_said crossing world c ≡ true) is e in
-              let one = passing_one (λ said. leb below said) world.said (second (same_text system crossing.from) (list_any (λ said. leb below said) world.said) (itself system own) f) in
-              least_below crossing world.sender below one.0 (leb-true below one.0 one.2) (All-contains (IsLeast crossing world.sender) world.said one.0 h.said one.1)
-            where
-              itself : (s : List ℕ) → s ≡ crossing.from → same_text s crossing.from ≡ true
-              itself s e = (bytes_decides s crossing.from).1 e
-
-              second : (a b : Bool) → a ≡ true → not a || b ≡ true → b ≡ true
-              second true b e f = f
-              second false b e f = absurd (cc)
+              let one = said_above crossing world system below own (subst (λ c. was_said crossing world c ≡ true) is e) in
+              least_below crossing world.sender below one.0 one.2 (All-contains (IsLeast crossing world.sender) world.said one.0 h.said one.1)
 
   -- ---- the receiver tells what it has
 

@@ -56,9 +56,9 @@ unchanged crossing world parcel new h queued = by_verdict (verdict world.receive
             by_remembered (inr (row, there, same)) =
                 both_ways _ (find_none (is_taken parcel.number) (kept_of crossing world).taken why.1) (some_passes (is_taken parcel.number) (kept_of crossing world).taken row there (eq-eqb row.number parcel.number (same ∙ queued.of.number)))
 
--- ---- a job that waits is free
+-- ---- a job that waits is free, unless its number is one of those that are forgotten
 
-module _ (crossing : Crossing) (world : World) (job : Job) (new : NewJob) (h : Holds crossing world) (heard : world.is_heard ≡ true) (there : Contains world.sender.jobs job) (own : job.system ≡ crossing.to) where
+module _ (crossing : Crossing) (world : World) (job : Job) (new : NewJob) (h : Holds crossing world) (there : Contains world.sender.jobs job) (low : (kept_of crossing world).below ≤ job.number) where
   abbrev key : Key
   key = key_of crossing (parcel_of job)
 
@@ -73,9 +73,6 @@ module _ (crossing : Crossing) (world : World) (job : Job) (new : NewJob) (h : H
 
   abbrev least : ℕ
   least = (kept_of crossing world).below
-
-  low : least ≤ job.number
-  low = All-contains (λ (j : Job). j.system ≡ crossing.to → (kept_of crossing world).below ≤ j.number) world.sender.jobs job (h.heard heard).now there own
 
   -- what was taken under its number has its mark
   same_mark : (row : Taken) → taken ≡ Some row → row.mark ≡ crossing.mark (parcel_of job)
@@ -96,8 +93,13 @@ module _ (crossing : Crossing) (world : World) (job : Job) (new : NewJob) (h : H
       ∙ ap (λ s. first_reason (queue_reasons known next new ++ (ltb job.number least, Stale) ∷ (s, Differs) ∷ [])) (not_other taken refl e)
       ∙ ap (λ s. first_reason (queue_reasons known next new ++ (s, Stale) ∷ (false, Differs) ∷ [])) (le-ltb job.number least low))
 
-  pub free : IsFree crossing world job new
-  free = by_again (is_again taken key) (is_other taken key) refl refl
+  pub free_above : IsFree crossing world job new
+  free_above = by_again (is_again taken key) (is_other taken key) refl refl
+
+-- if only what was said is forgotten, its number is not one of those
+pub free : (crossing : Crossing) (world : World) (job : Job) (new : NewJob) → Holds crossing world → world.is_heard ≡ true → Contains world.sender.jobs job → job.system ≡ crossing.to → IsFree crossing world job new
+free crossing world job new h heard there own =
+    free_above crossing world job new h there (All-contains (λ (j : Job). j.system ≡ crossing.to → (kept_of crossing world).below ≤ j.number) world.sender.jobs job (h.heard heard).now there own)
 
 -- ---- no job is lost
 
@@ -178,7 +180,7 @@ module _ (crossing : Crossing) (world : World) (h : Holds crossing world) (job :
           ])
 
 -- the same, of a job that was the same before
-carried_back : (crossing : Crossing) (world : World) (job later : Job) → IsSameJob job later → IsNotLost crossing world later → IsNotLost crossing world job
+pub carried_back : (crossing : Crossing) (world : World) (job later : Job) → IsSameJob job later → IsNotLost crossing world later → IsNotLost crossing world job
 carried_back crossing world job later same (inl among) = inl (record {
   later = among.later;
   there = among.there;
@@ -188,7 +190,7 @@ carried_back crossing world job later same (inr (inl killed)) = inr (inl (subst 
 carried_back crossing world job later same (inr (inr queued)) = inr (inr (subst (IsQueued crossing world) (same_parcel job later same) queued))
 
 -- a step leaves a job accounted for that waits
-waits_on : (crossing : Crossing) (world : World) (step : Step) (job : Job) → Holds crossing world → MayGo crossing world step → Contains world.sender.jobs job → job.system ≡ crossing.to → IsNotLost crossing (go crossing world step) job
+pub waits_on : (crossing : Crossing) (world : World) (step : Step) (job : Job) → Holds crossing world → MayGo crossing world step → Contains world.sender.jobs job → job.system ≡ crossing.to → IsNotLost crossing (go crossing world step) job
 waits_on crossing world (SenderRuns command) job h may there own = elim (ends crossing world h job there own command may) [
   | inl among ↦ inl among
   | inr rest ↦ (elim rest [
@@ -202,7 +204,7 @@ waits_on crossing world (ReceiverTakes parcel new) job h may there own = inl (re
 waits_on crossing world (ReceiverRuns command) job h may there own = inl (record { later = job; there = there; same = record { number = refl; system = refl; user = refl; kind = refl; bytes = refl } })
 waits_on crossing world (ReceiverTells number) job h may there own = inl (record { later = job; there = there; same = record { number = refl; system = refl; user = refl; kind = refl; bytes = refl } })
 
-still_killed : (crossing : Crossing) (world : World) (step : Step) (number : ℕ) → Contains world.killed number → Contains (go crossing world step).killed number
+pub still_killed : (crossing : Crossing) (world : World) (step : Step) (number : ℕ) → Contains world.killed number → Contains (go crossing world step).killed number
 still_killed crossing world (SenderRuns command) number there = Contains-append_left world.killed (kills_in (accepted_of world.sender (command ∷ []))) number there
 still_killed crossing world (SenderShows job) number there = there
 still_killed crossing world (SenderSays below) number there = there
@@ -210,7 +212,7 @@ still_killed crossing world (ReceiverTakes parcel new) number there = there
 still_killed crossing world (ReceiverRuns command) number there = there
 still_killed crossing world (ReceiverTells told) number there = there
 
-still_queued : (crossing : Crossing) (world : World) (step : Step) (parcel : Parcel) → IsQueued crossing world parcel → IsQueued crossing (go crossing world step) parcel
+pub still_queued : (crossing : Crossing) (world : World) (step : Step) (parcel : Parcel) → IsQueued crossing world parcel → IsQueued crossing (go crossing world step) parcel
 still_queued crossing world (SenderRuns command) parcel q = record { handed = q.handed; there = q.there; of = q.of }
 still_queued crossing world (SenderShows job) parcel q = record { handed = q.handed; there = q.there; of = q.of }
 still_queued crossing world (SenderSays below) parcel q = record { handed = q.handed; there = q.there; of = q.of }

@@ -37,7 +37,7 @@ pub record IsShown (sender : State) (parcel : Parcel) : Type 0 where
   pub same : (job : Job) → Contains sender.jobs job → job.number ≡ parcel.number → parcel_of job ≡ parcel
 
 -- a job that a command hands in has the next number
-handed_number : (state : State) (command : Command) (job : Job) → IsHandedIn state command job → job.number ≡ state.next
+pub handed_number : (state : State) (command : Command) (job : Job) → IsHandedIn state command job → job.number ≡ state.next
 handed_number state command job it = ap (λ (j : Job). j.number) it.job_is
 
 pub still_shown : (sender : State) (command : Command) (parcel : Parcel) → IsShown sender parcel → IsShown (after sender command).0 parcel

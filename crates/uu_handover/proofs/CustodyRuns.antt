@@ -80,7 +80,7 @@ pub order_on : (state : State) (commands : List Command) → IsInOrder state →
 order_on state [] h = h
 order_on state (command ∷ commands) h = order_on (after state command).0 commands (still_in_order state command h)
 
-holds_start : (crossing : Crossing) (sender receiver : State) → IsWellFormed sender → IsWellFormed receiver → link_of receiver crossing.from ≡ new_link crossing.from → Holds crossing (start sender receiver)
+pub holds_start : (crossing : Crossing) (sender receiver : State) → IsWellFormed sender → IsWellFormed receiver → link_of receiver crossing.from ≡ new_link crossing.from → Holds crossing (start sender receiver)
 holds_start crossing sender receiver good well nothing = record {
   sender_order = in_order sender good;
   receiver_order = in_order receiver well;

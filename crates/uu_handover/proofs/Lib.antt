@@ -1,9 +1,9 @@
 mod BundleExamples
-mod BundleLaws
-mod SettledLaws
+pub mod BundleLaws
+pub mod SettledLaws
 mod CustodyExamples
-mod CustodyInvariant
-mod CustodyLaws
-mod CustodyLemmas
-mod CustodyRuns
+pub mod CustodyInvariant
+pub mod CustodyLaws
+pub mod CustodyLemmas
+pub mod CustodyRuns
 mod ExchangeLaws

@@ -790,11 +790,17 @@ fn spools_that_may_be_copied(rt: HostRuntime) {
     let alloc = rt.alloc();
     let conn = Connection::open_in_memory(alloc).expect(&rt, "memory");
     let mut spool = begun(&rt, alloc, conn, FULL);
-    let contents = spool.contents(alloc).ok().expect(&rt, "contents");
+    let mut contents = spool.contents(alloc).ok().expect(&rt, "contents");
     ALL.begin(alloc);
-    let answers = (spool.is_alone(), contents.room());
-    let names = ["Spool::is_alone", "Contents::room"];
-    expect_none(&rt, alloc, &names, &answers, "(true, 87447)");
+    contents.renumber(1_000);
+    let answers = (spool.is_alone(), contents.room(), contents.next());
+    let names = [
+        "Spool::is_alone",
+        "Contents::room",
+        "Contents::renumber",
+        "Contents::next",
+    ];
+    expect_none(&rt, alloc, &names, &answers, "(true, 87447, 1000)");
 }
 
 #[test]

@@ -254,11 +254,12 @@ const VERSION: &str = "1.0.0, spool version 4";
 
 // The lines that `main` knows by their words, before `clap` reads them.
 const BY_WORDS: &str = "The spool of a site:
-  uuspool [-c <FILE>] init    Makes the spool, once
-  uuspool [-c <FILE>] site    Prints where the site is: its name, settings, folder, spool and log
-  uuspool [-c <FILE>] vacuum  Gives back the room that its file no longer needs
+  uuspool [-c <FILE>] init               Makes the spool, once
+  uuspool [-c <FILE>] site               Prints the site's name, settings, folder, spool and log
+  uuspool [-c <FILE>] vacuum             Gives back the room that its file no longer needs
+  uuspool [-c <FILE>] renumber <NUMBER>  Gives the next job this number, or a later one
 Many requests:
-  uuspool [-c <FILE>] batch   Reads requests from standard input and answers each in turn";
+  uuspool [-c <FILE>] batch              Reads requests from standard input and answers each in turn";
 
 // The options of the whole command.
 static OPTIONS: [Entry<'static>; 3] = [CONFIG, SECOND, USER];

@@ -16,10 +16,12 @@ use Rattle.uu_store.specs.declared.spool.Spool.{Spool}
 use Rattle.uu_store.specs.Closing.{IsClosed}
 use Rattle.uu_store.specs.Openings.{ImageKeeps}
 use Rattle.uu_store.specs.Spool.{disk, Shows}
-use Rattle.uuspool_main.specs.Copying.{Closes, CopiesInto, HasContents, HasCopied, HasLog, IsReadOnly, HasShortLog, IsClosedThen, IsCopied, LeavesClosed, MayReplace, WasCopied}
+use Rattle.uuspool_main.specs.Copying.{Closes, CopiesInto, HasContents, HasCopied, HasLog, IsReadOnly, HasShortLog, IsClosedThen, IsCopied, LeavesClosed, MayReplace, Meets, WasCopied}
 use Rattle.uuspool_main.specs.Stretch.{EndsStretch, LetsGo, ShowsKept}
 use Rattle.uuspool_main.specs.declared.copying.Copying.{Copying}
 use Rattle.uuspool_main.specs.declared.copying.Copying.TheVariants as copying
+use Rattle.uuspool_main.specs.declared.copying.Purpose.{Purpose}
+use Rattle.uuspool_main.specs.declared.copying.Purpose.TheVariants as purpose
 use Rattle.uuspool_main.specs.declared.stretch.Rest.{Rest}
 use Rattle.uu_store.specs.Exchanges.{exchange_of}
 
@@ -31,30 +33,39 @@ filled_has {N} {h} stays contents blank copy filled shows unclean step new close
     let shown = step s are now (shows (omega (arith, now, unclean)) empty nothing) in
     (closed.stop clean s shown (record { log = h.seen new.log; db = db }) (stays new.log, may)).1
 
-module _ {D N : Type 0} {g : device.Ghosts D} (h : device.Ghosts N) (before blank : Image) (contents : Contents) (spool : Spool (FileStore D g) over_files)
+module _ {D N : Type 0} {g : device.Ghosts D} (h : device.Ghosts N) (before blank : Image) (contents given : Contents) (spool : Spool (FileStore D g) over_files)
     (shows : HasCleanDisk (disk spool) → (s : State) → ImageKeeps before s → AreContentsOf s contents × Shows spool s) where
   leaves_closed : (old : Files D) → IsClosedThen spool old → LeavesClosed g before old
   leaves_closed old (closed, close, read) clean left may =
       let was = read.clean clean in
       (refl, refl, λ s keeps. (close.stop was s (shows (close.clean was) s keeps).1 left (read.left left may)).0)
 
-  may_replace : ((log db : List ℕ) (s : State) → length log < 56 → ImageKeeps (record { log = []; db = db }) s → ImageKeeps (record { log = log; db = db }) s)
-      → (old : Files D) (new : Files N) → IsClosedThen spool old → HasShortLog g old → HasContents h contents blank new → MayReplace g h before blank old new
-  may_replace short_counts old new (closed, close, read) short has nothing clean clean_new log db may_log may_db =
-      (refl, refl, λ s keeps. ∥∥₁_map (has nothing clean_new s (shows (close.clean (read.clean clean)) s keeps).0 db may_db) (λ kept. short_counts log db s (short clean log may_log) kept))
+  -- a log so short counts as none, beside any database
+  module _ (short_counts : (log db : List ℕ) (s : State) → length log < 56 → ImageKeeps (record { log = []; db = db }) s → ImageKeeps (record { log = log; db = db }) s) where
+    keeps_with : (old : Files D) (new : Files N) → HasShortLog g old → HasContents h given blank new → ImageKeeps blank empty → AreClean g old.log old.db → AreClean h new.log new.db
+        → (log db : List ℕ) → g.may_leave old.log log → h.may_leave new.db db → (s : State) → AreContentsOf s given → ∥ ImageKeeps (record { log = log; db = db }) s ∥₁
+    keeps_with old new short has nothing clean clean_new log db may_log may_db s are =
+        ∥∥₁_map (has nothing clean_new s are db may_db) (λ kept. short_counts log db s (short clean log may_log) kept)
 
-  copied_into : ((old : Files D) (new : Files N) → IsClosedThen spool old → HasContents h contents blank new → WasCopied g h before blank old new) → ((log db : List ℕ) (s : State) → length log < 56 → ImageKeeps (record { log = []; db = db }) s → ImageKeeps (record { log = log; db = db }) s)
-      → ((rest : Rest D g) → LetsGo spool rest → EndsStretch before (exchange_of 1 [] [] None) rest)
-      → (result : Copying D N g) → CopiesInto h contents spool blank result → IsCopied h before blank result
-  copied_into whole short_counts ends (copying.Whole old new) (closed, short, has) = (whole old new closed has, leaves_closed old closed, may_replace short_counts old new closed short has)
-  copied_into whole short_counts ends (copying.Long old) closed = leaves_closed old closed
-  copied_into whole short_counts ends (copying.Spared fault rest) gone = (None, tt, ends rest gone)
-  copied_into whole short_counts ends (copying.Unmade fault rest) gone = (None, tt, ends rest gone)
+    may_replace : (why : Purpose) → Meets why contents given → (old : Files D) (new : Files N) → IsClosedThen spool old → HasShortLog g old → HasContents h given blank new → MayReplace g h why before blank old new
+    may_replace (purpose.Shrink length) same old new (closed, close, read) short has nothing clean clean_new log db may_log may_db = (
+      refl,
+      refl,
+      λ s keeps.
+          keeps_with old new short has nothing clean clean_new log db may_log may_db s (subst (AreContentsOf s) (sym same) (shows (close.clean (read.clean clean)) s keeps).0),
+    )
+    may_replace (purpose.Renumber number) met old new (closed, close, read) short has nothing clean clean_new log db may_log may_db s keeps =
+        keeps_with old new short has nothing clean clean_new log db may_log may_db _ (met s (shows (close.clean (read.clean clean)) s keeps).0)
 
-  pub copied : ((old : Files D) (new : Files N) → IsClosedThen spool old → HasContents h contents blank new → WasCopied g h before blank old new) → ((log db : List ℕ) (s : State) → length log < 56 → ImageKeeps (record { log = []; db = db }) s → ImageKeeps (record { log = log; db = db }) s)
-      → ((rest : Rest D g) → LetsGo spool rest → EndsStretch before (exchange_of 1 [] [] None) rest)
-      → (result : Copying D N g) → HasCopied h contents spool blank result → IsCopied h before blank result
-  copied whole short_counts ends result it = copied_into whole short_counts ends result it.ended
+    pub copied : (why : Purpose) → Meets why contents given → ((old : Files D) (new : Files N) → IsClosedThen spool old → HasContents h given blank new → WasCopied g h why before blank old new)
+        → ((rest : Rest D g) → LetsGo spool rest → EndsStretch before (exchange_of 1 [] [] None) rest)
+        → (result : Copying D N g) → CopiesInto h given spool blank result → IsCopied h why before blank result
+    copied why met whole ends (copying.Whole old new) (closed, short, has) = (whole old new closed has, leaves_closed old closed, may_replace why met old new closed short has)
+    copied why met whole ends (copying.Long old) closed = leaves_closed old closed
+    copied why met whole ends (copying.Needless rest) none = absurd none
+    copied why met whole ends (copying.Shared rest) none = absurd none
+    copied why met whole ends (copying.Unread fault rest) gone = (None, tt, ends rest gone)
+    copied why met whole ends (copying.Unmade fault rest) gone = (None, tt, ends rest gone)
 
 -- ---- the steps of a copy
 
@@ -67,15 +78,19 @@ module _ {D N : Type 0} {g : device.Ghosts D} where
   pub closes : (spool : Spool (FileStore D g) over_files) (closed : Files D) (new : Files N) → IsClosed spool closed → (result : Copying D N g) → HasLog closed new result → Closes spool new result
   closes spool closed new close (copying.Whole old it) (read, short, same) = ((closed, close, read), short, same)
   closes spool closed new close (copying.Long old) read = (closed, close, read)
-  closes spool closed new close (copying.Spared fault rest) none = absurd none
+  closes spool closed new close (copying.Needless rest) none = absurd none
+  closes spool closed new close (copying.Shared rest) none = absurd none
+  closes spool closed new close (copying.Unread fault rest) none = absurd none
   closes spool closed new close (copying.Unmade fault rest) none = absurd none
 
   copies_into : (h : device.Ghosts N) (contents : Contents) (spool : Spool (FileStore D g) over_files) (blank : Image) (new : Files N) → HasContents h contents blank new
       → (result : Copying D N g) → Closes spool new result → CopiesInto h contents spool blank result
   copies_into h contents spool blank new has (copying.Whole old it) (closed, short, same) = (closed, short, subst (HasContents h contents blank) (sym same) has)
   copies_into h contents spool blank new has (copying.Long old) closed = closed
-  copies_into h contents spool blank new has (copying.Spared fault rest) gone = gone
-  copies_into h contents spool blank new has (copying.Unmade fault rest) gone = gone
+  copies_into h contents spool blank new has (copying.Needless rest) none = absurd none
+  copies_into h contents spool blank new has (copying.Shared rest) none = absurd none
+  copies_into h contents spool blank new has (copying.Unread fault rest) gone = gone
+  copies_into h contents spool blank new has (copying.Unmade fault rest) none = absurd none
 
   pub copies : (h : device.Ghosts N) (contents : Contents) (spool : Spool (FileStore D g) over_files) (blank : Image) (new : Files N) → HasContents h contents blank new
       → (result : Copying D N g) → Closes spool new result → HasCopied h contents spool blank result

@@ -1,10 +1,10 @@
 //! Copying what the spool keeps into a new file, which may then take the place of the old one.
-ghost use Rattle.std.specs.Prelude.{◌≡◌, ◌≢◌, false, IfOk, IfErr};
+ghost use Rattle.std.specs.Prelude.{◌≡◌, ◌≢◌, false, IfOk, IfErr, IfSome, None};
 ghost use Rattle.sqlite_wal.specs.Files.{image_at};
 ghost use Rattle.sqlite_wal.specs.Recovery.{Image};
 ghost use Rattle.uu_store.specs.Closing.{IsClosed};
 ghost use Rattle.uu_store.specs.Openings.{IsRightFault, LeavesAlone, LeavesAsKept, Started, remains_of};
-ghost use Rattle.uuspool_main.specs.Copying.{Closes, HasContents, HasCopied, HasLog, IsCopied};
+ghost use Rattle.uuspool_main.specs.Copying.{Closes, HasContents, HasCopied, HasLog, IsCopied, IsNeedless, Meets};
 ghost use Rattle.uuspool_main.specs.Stretch.{ShowsKept};
 
 use crate::stretch::{Rest, let_go};
@@ -23,30 +23,31 @@ const SHORTEST: u64 = 1_048_576;
 /// How many times the room of their rows they have to take.
 const TIMES: u64 = 4;
 
+/// What a copy is made for.
+#[derive(Clone, Copy, Drop)]
+pub(crate) enum Purpose {
+    /// Shorter files than these, which have so many bytes.
+    Shrink { length: u64 },
+    /// The next job gets this number, or a later one.
+    Renumber { number: u32 },
+}
+
 /// How a copy ended.
 #[derive(Drop)]
 pub(crate) enum Copying<D: Disk, N: Disk> {
     /// The files of both were closed, and the database of the new ones may take the place of the old
     /// one.
-    Whole {
-        old: Files<D>,
-        new: Files<N>,
-    },
+    Whole { old: Files<D>, new: Files<N> },
     /// The files of both were closed, but the log of the old ones isn't short.
-    Long {
-        old: Files<D>,
-    },
-    /// There is no copy, because of this fault of the spool, which was only read, or because nothing
-    /// is to be gained, or because its database has something else, which a copy would lack.
-    Spared {
-        fault: Option<StoreFault>,
-        rest: Rest<D>,
-    },
+    Long { old: Files<D> },
+    /// The spool was only read. A copy isn't needed.
+    Needless { rest: Rest<D> },
+    /// The spool was only read. Its database has something else, which a copy would lack.
+    Shared { rest: Rest<D> },
+    /// The spool was only read, and has this fault.
+    Unread { fault: StoreFault, rest: Rest<D> },
     /// The spool was only read, and the new file has this fault.
-    Unmade {
-        fault: StoreFault,
-        rest: Rest<D>,
-    },
+    Unmade { fault: StoreFault, rest: Rest<D> },
 }
 
 /// Whether files of so many bytes may be longer than they have to be.
@@ -59,8 +60,8 @@ fn is_worth_it(length: u64, room: u64) -> bool {
     may_shrink(length) && length / TIMES >= room
 }
 
-/// Copies what the spool at the path keeps into the empty file at the place, if its files, which have
-/// so many bytes, are much longer than they have to be, and its database has nothing else.
+/// Copies what the spool at the path keeps into the empty file at the place, for this purpose, if that
+/// needs a copy and the spool's database has nothing else.
 ///
 /// # Errors
 /// Those of `open_spool`, of the spool at the path.
@@ -68,7 +69,7 @@ pub(crate) fn copy_on_file<T: Start, N: Start>(
     rt: &HostRuntime,
     path: &str,
     place: &str,
-    length: u64,
+    purpose: Purpose,
     room: Room,
     start: T,
     blank: N,
@@ -76,49 +77,67 @@ pub(crate) fn copy_on_file<T: Start, N: Start>(
     // Nothing is assumed about a torn write.
     requires wary { T.Start.is_mixing ≡ false }
     requires wary_new { N.Start.is_mixing ≡ false }
-    ensures copied { IfOk result (IsCopied ⟦<SpoolFile<N> as Disk>⟧ (image_at T.Start) (image_at N.Start)) }
+    ensures copied { IfOk result (IsCopied ⟦<SpoolFile<N> as Disk>⟧ purpose (image_at T.Start) (image_at N.Start)) }
     ensures named { IfErr result (λ e. IsRightFault (image_at T.Start) e.fault (remains_of e)) }
     ensures never_failed { IfErr result (λ e. e.fault ≢ StoreFault.Failed) }
     ensures left { IfErr result (λ e. LeavesAsKept (image_at T.Start) (remains_of e)) }
     ensures left_alone { IfErr result (λ e. LeavesAlone (image_at T.Start) e.fault (remains_of e)) }
 {
     match open_spool(rt, path, room, start) {
-        Ok(spool) => Ok(copy_spool(rt, place, length, room, spool, blank)),
+        Ok(spool) => Ok(copy_spool(rt, place, purpose, room, spool, blank)),
         Err(failed) => Err(failed),
     }
 }
 
-// Copies an opened spool, if its database has nothing else and the copy is worth it.
+// Copies an opened spool, if its database has nothing else and the purpose needs a copy.
 fn copy_spool<D: Disk + Drop, N: Start>(
     rt: &HostRuntime,
     place: &str,
-    length: u64,
+    purpose: Purpose,
     room: Room,
     spool: Spool<FileStore<D>>,
     blank: N,
 ) -> Copying<D, SpoolFile<N>>
-    ensures { (before : Image) → Started before spool → ShowsKept before spool → IsCopied ⟦<SpoolFile<N> as Disk>⟧ before (image_at N.Start) result }
+    ensures { (before : Image) → Started before spool → ShowsKept before spool → IsCopied ⟦<SpoolFile<N> as Disk>⟧ purpose before (image_at N.Start) result }
 {
     calls_make_a_stretch::<D>();
     short_logs_count_as_none();
     let mut spool = spool;
     let is_alone = spool.is_alone();
     match spool.contents(rt.alloc()) {
-        Ok(contents) if is_alone && is_worth_it(length, contents.room()) => {
-            copy_contents(rt, place, room, &contents, spool, blank)
-        }
-        Ok(_) => Copying::Spared {
-            fault: None,
-            rest: let_go(spool, is_alone),
+        Ok(contents) if is_alone => match needed_for(purpose, contents) {
+            Some(contents) => copy_contents(rt, place, room, &contents, spool, blank),
+            None => Copying::Needless {
+                rest: let_go(spool, true),
+            },
         },
-        Err(fault) => Copying::Spared {
-            fault: Some(fault),
+        Ok(_) => Copying::Shared {
+            rest: let_go(spool, false),
+        },
+        Err(fault) => Copying::Unread {
+            fault,
             rest: let_go(spool, false),
         },
     }
 }
 
-// Makes a copy of these contents in the new file, and closes both.
+// What a copy of these contents gets for the purpose, or `None` if that needs no copy.
+fn needed_for(purpose: Purpose, contents: Contents) -> Option<Contents>
+    ensures needed { IfSome result (Meets purpose contents.now) }
+    ensures needless { result ≡ None → IsNeedless purpose contents.now }
+{
+    match purpose {
+        Purpose::Shrink { length } if is_worth_it(length, contents.room()) => Some(contents),
+        Purpose::Renumber { number } if contents.next() < number => {
+            let mut contents = contents;
+            contents.renumber(number);
+            Some(contents)
+        }
+        Purpose::Shrink { .. } | Purpose::Renumber { .. } => None,
+    }
+}
+
+// Makes a copy with these contents in the new file, and closes both.
 fn copy_contents<D: Disk + Drop, N: Start>(
     rt: &HostRuntime,
     place: &str,
@@ -199,8 +218,8 @@ fn close_old<D: Disk + Drop, N: Disk + Drop>(
         Ok(old) => with_short_log(old, new),
         Err((fault, store)) => {
             drop(new);
-            Copying::Spared {
-                fault: Some(fault),
+            Copying::Unread {
+                fault,
                 rest: Rest::Unclosed(store),
             }
         }

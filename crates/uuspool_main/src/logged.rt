@@ -139,26 +139,37 @@ pub(crate) fn log_vacuum(
     log_done(rt, settings, places, "vacuum")
 }
 
+/// Notes in the log that the next job gets this number, or a later one.
+pub(crate) fn log_renumber(
+    rt: &HostRuntime,
+    settings: &Settings,
+    places: &Places,
+    number: u32,
+) -> Result<(), SiteFault> {
+    let words = format!(in rt.alloc(); "renumber {number}")?;
+    log_done(rt, settings, places, words.as_str())
+}
+
 // Notes in the log that this was done, which no user asked for by name.
 fn log_done(
     rt: &HostRuntime,
     settings: &Settings,
     places: &Places,
-    word: &str,
+    words: &str,
 ) -> Result<(), SiteFault> {
-    let change = change_of_site(rt.alloc(), word)?;
+    let change = change_of_site(rt.alloc(), words)?;
     let moment = log_moment(rt.alloc(), &settings.zone, log_second(rt))?;
     let lines = ended_lines(rt.alloc(), moment.as_str(), &change, "done")?;
     append_log(rt, places.log.as_str(), &lines)
 }
 
-fn change_of_site(alloc: Global, word: &str) -> Result<Change, AllocError> {
+fn change_of_site(alloc: Global, words: &str) -> Result<Change, AllocError> {
     Ok(Change {
         form: Form::One,
         system: String::from_str(alloc, "-")?,
         user: String::from_str(alloc, "uucp")?,
         jobs: Vec::new(alloc),
-        words: String::from_str(alloc, word)?,
+        words: String::from_str(alloc, words)?,
     })
 }
 

@@ -8,6 +8,8 @@ mod given;
 mod logged;
 mod making;
 mod misread;
+mod renumbering;
+mod replacing;
 mod room;
 mod sealing;
 mod serving;
@@ -19,6 +21,7 @@ mod vacuuming;
 use crate::given::{settings_in, settings_of, words_of};
 use crate::making::make_spool;
 use crate::misread::line_trouble;
+use crate::renumbering::{number_of, renumber};
 use crate::sealing::{sealing_for, take_seals};
 use crate::serving::{serve_batch, serve_words};
 use crate::telling::{tell_name, tell_site};
@@ -44,34 +47,23 @@ fn main(rt: HostRuntime) -> ExitCode {
 fn run(rt: &HostRuntime) -> Result<u8, Trouble> {
     let words = words_of(rt)?;
     if batch_settings(&words).is_some() {
-        return run_batch(rt, config_before(&words));
+        return run_batch(rt, config_before(&words).0);
     }
-    if is_only(&words, "init") {
-        return run_init(rt, config_before(&words));
-    }
-    if is_only(&words, "site") {
-        return run_site(rt, config_before(&words));
-    }
-    if is_only(&words, "vacuum") {
-        return run_vacuum(rt, config_before(&words));
-    }
-    run_line(rt, &words)
-}
-
-// Whether the words are `NAME` or `-c FILE NAME`.
-fn is_only(words: &[String], name: &str) -> bool {
-    match words {
-        [word] => word.as_str() == name,
-        [option, _, word] => option.as_str() == "-c" && word.as_str() == name,
-        _ => false,
+    let (config, line) = config_before(&words);
+    match line {
+        [word] if word.as_str() == "init" => run_init(rt, config),
+        [word] if word.as_str() == "site" => run_site(rt, config),
+        [word] if word.as_str() == "vacuum" => run_vacuum(rt, config),
+        [word, given @ ..] if word.as_str() == "renumber" => run_renumber(rt, config, given),
+        _ => run_line(rt, &words),
     }
 }
 
-// The file of `-c` in words that are `NAME` or `-c FILE NAME`.
-fn config_before(words: &[String]) -> Option<&str> {
+// The file of `-c`, if the words begin with it, and the words after it.
+fn config_before(words: &[String]) -> (Option<&str>, &[String]) {
     match words {
-        [_, file, _] => Some(file.as_str()),
-        _ => None,
+        [option, file, line @ ..] if option.as_str() == "-c" => (Some(file.as_str()), line),
+        _ => (None, words),
     }
 }
 
@@ -91,6 +83,13 @@ fn run_init(rt: &HostRuntime, config: Option<&str>) -> Result<u8, Trouble> {
 fn run_vacuum(rt: &HostRuntime, config: Option<&str>) -> Result<u8, Trouble> {
     let settings = enter_site(rt, config)?;
     vacuum(rt, &settings)
+}
+
+// The next job gets the number that is given, or a later one.
+fn run_renumber(rt: &HostRuntime, config: Option<&str>, given: &[String]) -> Result<u8, Trouble> {
+    let number = number_of(rt, given)?;
+    let settings = enter_site(rt, config)?;
+    renumber(rt, &settings, number)
 }
 
 // Prints what the site is. Who asks need not be able to enter its folder.

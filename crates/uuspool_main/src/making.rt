@@ -3,9 +3,9 @@
 use crate::given::{Given, given_for};
 use crate::logged::log_init;
 use crate::sealing::plain;
-use crate::serving::{ended, print, run_on_file, turn_at};
+use crate::serving::{ended, run_on_file, tell_change, turn_at};
 use crate::stretch::{Answer, Invocation};
-use crate::trouble::{Trouble, print_warning};
+use crate::trouble::Trouble;
 use std::mem::drop;
 use uu_names::Word;
 use uu_site::{
@@ -29,20 +29,10 @@ pub(crate) fn make_spool(rt: &HostRuntime, settings: &Settings) -> Result<u8, Tr
         make_reserve(rt, &places, Share::Quarter);
     }
     drop(turn);
-    let (text, status) = if is_made {
-        ("done\n", 0)
+    if is_made {
+        tell_change(rt, noted, "done\n", 0)
     } else {
-        ("refused SpoolThere\n", 1)
-    };
-    if let Err(fault) = noted {
-        print_warning(rt, &fault);
-    }
-    match print(rt, text.as_bytes()) {
-        Ok(()) => Ok(status),
-        Err(error) => Err(Trouble::Unprinted {
-            error,
-            told: String::from_str(rt.alloc(), text.trim_ascii_end())?,
-        }),
+        tell_change(rt, noted, "refused SpoolThere\n", 1)
     }
 }
 

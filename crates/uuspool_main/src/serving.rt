@@ -441,6 +441,25 @@ pub(crate) fn print(rt: &HostRuntime, bytes: &[u8]) -> io::Result<()> {
     io::writer(rt).write_all(bytes)
 }
 
+/// Prints this line for a change of the whole spool, and warns if the log lacks it. Returns the status.
+pub(crate) fn tell_change(
+    rt: &HostRuntime,
+    noted: Result<(), SiteFault>,
+    line: &str,
+    status: u8,
+) -> Result<u8, Trouble> {
+    if let Err(fault) = noted {
+        print_warning(rt, &fault);
+    }
+    match print(rt, line.as_bytes()) {
+        Ok(()) => Ok(status),
+        Err(error) => Err(Trouble::Unprinted {
+            error,
+            told: String::from_str(rt.alloc(), line.trim_ascii_end())?,
+        }),
+    }
+}
+
 /// How the work ended. A fault of the store gets the path of the spool, and the limit if that may be
 /// the cause.
 pub(crate) fn ended(

@@ -30,6 +30,8 @@ pub(crate) enum Trouble {
     Store { fault: StoreFault, path: String },
     /// The spool in the file of this path has reached its limit of so many bytes.
     Full { path: String, limit: u64 },
+    /// The spool's database, in the file of this path, has something else.
+    Shared { path: String },
     /// The keys of the line's neighbour can't be used.
     Keys(KeyFileFault),
     /// The bundle of this neighbour isn't sealed with one of its keys.
@@ -48,6 +50,7 @@ impl Trouble {
             Trouble::Site(fault) => fault.status(),
             Trouble::Store { fault, .. } => fault_status(&Fault::Store(*fault)),
             Trouble::Full { .. } => fault_status(&Fault::Store(StoreFault::Store(StoreKind::Disk))),
+            Trouble::Shared { .. } => fault_status(&Fault::Store(StoreFault::Foreign)),
             Trouble::Unopened { .. } => 2,
             Trouble::Keys(_) | Trouble::Unprinted { .. } => 5,
         }
@@ -103,6 +106,7 @@ impl fmt::Display for Trouble {
             Trouble::Site(fault) => write!(f, "uuspool: {fault}\n"),
             Trouble::Store { fault, path } => write_store(*fault, path, f),
             Trouble::Full { path, limit } => write_full(path, *limit, f),
+            Trouble::Shared { path } => write_shared(path, f),
             Trouble::Keys(fault) => write!(f, "uuspool: {fault}\n"),
             Trouble::Unopened { neighbour, fault } => write_unopened(neighbour, *fault, f),
             Trouble::Unprinted { error, told } => {
@@ -181,6 +185,14 @@ fn write_full<W: fmt::Write>(path: &String, limit: u64, f: &mut fmt::Formatter<W
     write!(
         f,
         "uuspool: spool: full: {path} has reached the limit of {whole} MiB: deliver or remove jobs, or raise limit in the settings\n"
+    )
+}
+
+// Writes that a copy of the spool would lack something, and what to do.
+fn write_shared<W: fmt::Write>(path: &String, f: &mut fmt::Formatter<W>) -> fmt::Result {
+    write!(
+        f,
+        "uuspool: spool: shared: {path} has a table, index, view or column that isn't the spool's: remove that with sqlite3, and try again\n"
     )
 }
 

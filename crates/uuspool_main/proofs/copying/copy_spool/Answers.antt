@@ -6,31 +6,58 @@ use Rattle.uuspool_main.proofs.StretchLemmas.{ends}
 use Rattle.uuspool_main.proofs.copying.copy_spool.Goals as goal
 
 -- the spool was asked and then let go or closed
-pub returns-in-Ok : goal.returns-in-Ok
-returns-in-Ok g c before started shows =
+pub returns-in-Some : goal.returns-in-Some
+returns-in-Some g c before started shows =
     let begun = c.args.spool in
     let ended = c.contents.new.self in
     let asked = c.in-Ok.ensures.question in
     let make = c.calls_make_a_stretch.ensures in
-    copied _ before (image_at g.N.Start) c.in-Ok.contents ended
+    copied _ before (image_at g.N.Start) c.in-Ok.contents c.in-Some.contents ended
     (λ clean s keeps. asked.answer clean s (shows (omega (arith, clean, asked.clean)) s keeps))
+    c.short_logs_count_as_none.ensures
+    c.args.purpose c.in-Some.ensures
     (λ old new closed has. record {
       opened = begun;
       asked = ended;
       contents = c.in-Ok.contents;
+      given = c.in-Some.contents;
       started = started;
       alone = sym c.is_alone-is_alone.ensures.exact ∙ c.if-is_alone.true;
       read = asked;
+      met = c.in-Some.ensures;
       has = has;
       closed = closed;
     })
-    c.short_logs_count_as_none.ensures
     (λ rest gone.
     ends before (exchange_of 1 [] [] None) ended
     (λ store last numbered. make.let_go 1 before [] begun ended [] None store started asked.ran last numbered)
     (λ files close. make.closed 1 before [] begun ended [] None files started asked.ran close)
     rest gone)
-    c.copy_contents.result c.copy_contents.ensures
+    c.copy_contents.result c.copy_contents.ensures.ended
+
+pub returns-in-None : goal.returns-in-None
+returns-in-None g c before started shows =
+    let begun = c.args.spool in
+    let ended = c.contents.new.self in
+    let asked = c.in-Ok.ensures.question in
+    let make = c.calls_make_a_stretch.ensures in (
+      record {
+        opened = begun;
+        asked = ended;
+        contents = c.in-Ok.contents;
+        started = started;
+        alone = sym c.is_alone-is_alone.ensures.exact ∙ c.if-is_alone.true;
+        read = asked;
+        met = c.in-None.ensures;
+        gone = c.let_go.ensures;
+      },
+      None,
+      tt,
+      ends before (exchange_of 1 [] [] None) ended
+          (λ store last numbered. make.let_go 1 before [] begun ended [] None store started asked.ran last numbered)
+          (λ files close. make.closed 1 before [] begun ended [] None files started asked.ran close)
+          c.let_go.result c.let_go.ensures,
+    )
 
 pub returns-in-Ok-2 : goal.returns-in-Ok-2
 returns-in-Ok-2 g c before started shows =
@@ -38,12 +65,13 @@ returns-in-Ok-2 g c before started shows =
     let ended = c.contents.new.self in
     let ran = c.in-Ok-2.ensures.question.ran in
     let make = c.calls_make_a_stretch.ensures in (
+      record { opened = begun; started = started; shared = sym c.is_alone-is_alone.ensures.exact ∙ c.else-is_alone.false },
       None,
       tt,
       ends before (exchange_of 1 [] [] None) ended
           (λ store last numbered. make.let_go 1 before [] begun ended [] None store started ran last numbered)
           (λ files close. make.closed 1 before [] begun ended [] None files started ran close)
-          c.let_go.result c.let_go.ensures,
+          c.let_go-in-Ok-2.result c.let_go-in-Ok-2.ensures,
     )
 
 pub returns-in-Err : goal.returns-in-Err

@@ -1,0 +1,4 @@
+//! A spool whose next job gets a later number: a law alone.
+#![tactic(auto)]
+
+pub mod laws;
