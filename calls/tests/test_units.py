@@ -59,6 +59,16 @@ class Units(unittest.TestCase):
                 self.assertIn(f"\nSuccessExitStatus={status}\n", file.read(), name)
 
 
+class Configured(Folder):
+    def test_what_the_spools_user_stops_holds_up_no_upgrade(self) -> None:
+        with open(f"{TOP}/packaging/postinst", encoding="utf-8") as file:
+            (line,) = re.findall("(?m)^as_user\\(\\) .*$", file.read())
+        program = self.put("as-owner", "#!/bin/sh\ntrap '' TERM\nexec sleep 100\n", 0o755)
+        line = line.replace("/usr/lib/uuspool/as-owner", program).replace(" 60 ", " 1 ").replace(" 10 ", " 1 ")
+        ran = subprocess.run(["sh", "-c", f"spool=x\n{line}\nas_user uuspool init; echo $?"], stdout=subprocess.PIPE, text=True, timeout=20)
+        self.assertEqual("137\n", ran.stdout)
+
+
 class Purged(Folder):
     """What postrm does, below a folder."""
 
@@ -184,7 +194,7 @@ class Watched(Folder):
         for active, sub, begins in (
             ("failed", "failed", "uuspool-night.service failed (exit-code), so no neighbour is called: journalctl"),
             ("inactive", "dead", "uuspool-night.service is enabled, but does not run, so no neighbour is called: systemctl start uuspool-night.service"),
-            ("activating", "auto-restart", "uuspool-night.service fails again and again (exit-code): journalctl"),
+            ("activating", "auto-restart", "uuspool-night.service ends as soon as systemd starts it, so no neighbour is called: journalctl"),
         ):
             found = self.found(night_service={"ActiveState": active, "SubState": sub, "Result": "exit-code"})
             self.assertEqual([begins], [it[: len(begins)] for it in found])

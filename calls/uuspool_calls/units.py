@@ -23,7 +23,7 @@ def sentences(session: Session) -> Iterator[str]:
 
 def _of_the_night(its: _Unit) -> Iterator[str]:
     if its["SubState"] == "auto-restart":
-        yield f"{NIGHT} fails again and again ({its['Result']}): journalctl -u {NIGHT} says why."
+        yield f"{NIGHT} ends as soon as systemd starts it, so no neighbour is called: journalctl -u {NIGHT} says why."
     elif its["ActiveState"] == "failed":
         yield f"{NIGHT} failed ({its['Result']}), so no neighbour is called: journalctl -u {NIGHT} says why, and systemctl restart {NIGHT} starts it again."
     elif its["ActiveState"] in ("inactive", "deactivating"):
