@@ -223,6 +223,7 @@ look_at_pieces() {
 # Each piece says which file it belongs to, by sum, size, length of a piece and a mark of its own, where it
 # begins, and what is to be done with the whole. The number of the first is that of the file.
 queue_pieces() {
+    [ "$size" -le "$most" ] || expect_room
     trap 'stopped=yes' HUP INT TERM
     sum=$(sha256sum <"$input") && read -r mark </proc/sys/kernel/random/uuid || fail "$later" "$its_name: cannot read"
     its_pieces=${sum%% *}.$size.$piece.$mark at=0 first=''
@@ -234,6 +235,20 @@ queue_pieces() {
     done
     number=$first its_pieces=''
     trap - HUP INT TERM
+}
+
+# All pieces need room in the spool, of which a twentieth stays for other jobs. If only some fitted, they would keep those out.
+expect_room() {
+    limit=$(site_says limit) || exit
+    [ -n "$limit" ] || return 0
+    ask queues
+    waiting=$(printf '%s\n' "$said" | awk '{ bytes += $3 } END { printf "%.0f", bytes }')
+    allowed=$((limit - limit / 20)) room=$((limit - limit / 20 - waiting))
+    [ "$room" -gt 0 ] || room=0
+    [ "$size" -le "$allowed" ] ||
+        fail "$refused" "$its_name has $size bytes, and the spool takes files of $allowed bytes at most: its limit is $limit"
+    [ "$size" -le "$room" ] ||
+        fail "$later" "$its_name has $size bytes, and the spool has room for $room: queue it once calls made room, or with a larger limit in the settings"
 }
 
 # Reads a piece into a file without a name, which is descriptor 4. A piece is queued only if it is whole.

@@ -3,6 +3,7 @@ import fcntl
 import os
 import pwd
 import resource
+import socket
 import subprocess
 import time
 from unittest import mock
@@ -79,6 +80,46 @@ class Copies(Folder):
                 self.assertEqual(b"data", file.read(4))
             seen = os.stat(f"{self.folder}/copy/{name}")
             self.assertEqual((64 << 20, True), (seen.st_size, seen.st_blocks < 1000))
+
+    def test_a_file_that_becomes_shorter_is_left_out(self) -> None:
+        self.put("s/A", "A")  # (which is copied last)
+        lseek, pread, block = os.lseek, os.pread, 1 << 20
+        for in_read, at in (True, 0), (True, block), (False, 0):
+            path = self.put("s/a", b"x" * (3 * block))
+
+            def shorten(is_now: bool, path: str = path) -> None:
+                if is_now and os.path.getsize(path) > block:
+                    os.truncate(path, 10)
+
+            def seek(handle: int, place: int, how: int, is_now: bool = not in_read) -> int:
+                found = lseek(handle, place, how)
+                shorten(is_now and how == os.SEEK_DATA)
+                return found
+
+            def read(handle: int, count: int, place: int, at: int = at, is_now: bool = in_read) -> bytes:
+                shorten(is_now and place >= at)
+                return pread(handle, count, place)
+
+            with mock.patch("os.lseek", seek), mock.patch("os.pread", read):
+                self.assertEqual((["A"], ["s/a: became shorter while it was copied"]), self.copied("s"))
+            subprocess.run(["rm", "-rf", f"{self.folder}/copy"], check=True)
+
+    def test_a_file_in_a_hole_of_which_it_becomes_shorter(self) -> None:
+        os.truncate(self.put("s/a"), 1 << 20)
+        lseek = os.lseek
+
+        def seek(handle: int, place: int, how: int) -> int:
+            os.truncate(f"{self.folder}/s/a", 10)
+            return lseek(handle, place, how)
+
+        with mock.patch("os.lseek", seek):
+            self.assertEqual(([], ["s/a: became shorter while it was copied"]), self.copied("s"))
+
+    def test_a_socket_is_left_out(self) -> None:
+        self.put("s/a", "a")
+        with socket.socket(socket.AF_UNIX) as its:
+            its.bind(f"{self.folder}/s/socket")
+            self.assertEqual((["a"], ["s/socket: No such device or address"]), self.copied("s"))
 
     def test_modes_and_owners(self) -> None:
         self.put("s/b/c", "c")

@@ -544,7 +544,7 @@ class Entering(Folder):
                     enter(session, words, keeps)
                 self.assertEqual((3, mock.call(mock.ANY, keeps)), (raised.exception.code, relayed.call_args))
                 program = relayed.call_args.args[0]
-                self.assertEqual(([os.path.realpath("/bin/true"), *wanted], "/"), (program.words, program.folder))
+                self.assertEqual([os.path.realpath("/bin/true"), *wanted], program.words)
                 self.assertEqual(self.folder, program.environment["UUSPOOL_DIR"])
 
     def test_another_users_program_fills_no_memory(self) -> None:

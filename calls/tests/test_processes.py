@@ -155,6 +155,13 @@ class Stops(Folder):
     def sleeper(self) -> Program:
         return Program(["sh", "-c", f"echo $$ >{self.folder}/pid; sleep 1000"], self.folder, dict(os.environ), 100)
 
+    def test_what_stopped_the_timeout_is_ended(self) -> None:
+        script = f"kill -STOP $PPID; echo $$ >{self.folder}/pid; sleep 100"
+        with mock.patch.multiple(running, _GRACE=1, _MARGIN=1):
+            program = Program(["sh", "-c", script], self.folder, dict(os.environ), 200)
+            self.assertEqual(75, self.in_child(lambda processes: processes.run(program), "pid"))
+        os.kill(int(self.bytes_of("pid")), signal.SIGKILL)
+
     def test_what_may_take_long_is_ended(self) -> None:
         self.assertEqual(75, self.in_child(lambda processes: processes.run(self.sleeper()), "pid"))
         number = int(self.bytes_of("pid"))

@@ -16,6 +16,13 @@ _BLOCK = 1 << 20  # bytes
 _DEEPEST = 64  # folders of a path, below which nothing is copied
 
 
+class Shorter(OSError):
+    """A file became shorter while it was copied, so there is no copy of it."""
+
+    def __init__(self, name: str) -> None:
+        super().__init__(errno.ESTALE, "became shorter while it was copied", name)
+
+
 class Target:
     """A new folder, which is filled. Each folder and file in it is written to the disk by `sync`, and then it becomes
     like the one of which it is a copy."""
@@ -33,10 +40,13 @@ class Target:
         return self._parts[-1]
 
     def put(self, name: str, source: int) -> None:
-        """A new file with the bytes, the mode and the time of an open one, and its owner if this is root."""
+        """A new file with the bytes, the mode and the time of an open one, and its owner if this is root. None is left
+        if that one became shorter meanwhile."""
         seen = os.fstat(source)
         with files.opened(name, _NEW, folder=self.handle) as handle:
-            _copy(source, handle, seen.st_size)
+            if not _copy(source, handle, seen.st_size):
+                os.remove(name, dir_fd=self.handle)
+                raise Shorter(name)
             _make_like(handle, seen)
             os.utime(handle, ns=(seen.st_atime_ns, seen.st_mtime_ns))
 
@@ -59,22 +69,26 @@ class Target:
         os.close(self.handle)
 
 
-def _copy(source: int, target: int, size: int) -> None:
-    """Copies a file. Its holes stay holes, because a user may make them larger than root's disk."""
+def _copy(source: int, target: int, size: int) -> bool:
+    """Copies a file. Its holes stay holes, because a user may make them larger than root's disk. Whether it has so many bytes
+    to the end."""
     place = 0
     while place < size:
         try:
             place = os.lseek(source, place, os.SEEK_DATA)
+            end = min(size, os.lseek(source, place, os.SEEK_HOLE))
         except OSError as error:
             if error.errno != errno.ENXIO:
                 raise
-            break
-        end = min(size, os.lseek(source, place, os.SEEK_HOLE))
+            break  # (the rest is a hole, or isn't there any more)
         os.lseek(target, place, os.SEEK_SET)
-        while place < end and (block := os.pread(source, min(_BLOCK, end - place), place)):
+        while place < end:
+            if not (block := os.pread(source, min(_BLOCK, end - place), place)):
+                return False
             files.write_all(target, block)
             place += len(block)
     os.ftruncate(target, size)
+    return os.fstat(source).st_size >= size
 
 
 def _make_like(handle: int, seen: os.stat_result) -> None:
@@ -96,14 +110,14 @@ class Copier:
             resource.setrlimit(resource.RLIMIT_NOFILE, (most, most))
         self._most = resource.getrlimit(resource.RLIMIT_NOFILE)[0] - _SPARE
         self._owners, self._owner = owners, owner
-        self._opened: list[tuple[Target, str, int]] = []
+        self._opened: list[tuple[Target, str, int, str]] = []
         self.left_out: list[str] = []  # what isn't copied, and why
 
     def __enter__(self) -> "Copier":
         return self
 
     def __exit__(self, *error: object) -> None:
-        for _, _, handle in self._opened:
+        for _, _, handle, _ in self._opened:
             os.close(handle)
 
     def take(self, path: str, target: Target, wanted: Callable[[str], bool] = lambda name: True) -> None:
@@ -165,15 +179,19 @@ class Copier:
             os.close(handle)
             self.left_out.append(f"{path}: belongs to user {owner}")
         elif handle < self._most:
-            self._opened.append((target, new, handle))
+            self._opened.append((target, new, handle, path))
         else:
-            target.put(new, handle)
-            os.close(handle)
+            with files.closing(handle):
+                self._put(target, new, handle, path)
+
+    def _put(self, target: Target, name: str, handle: int, path: str) -> None:
+        try:
+            target.put(name, handle)
+        except Shorter as why:
+            self._leave_out(path, why)
 
     def finish(self) -> None:
         """Copies what is open."""
         while self._opened:
-            target, name, handle = self._opened[-1]
-            target.put(name, handle)
-            os.close(handle)
-            self._opened.pop()
+            self._put(*self._opened[-1])
+            os.close(self._opened.pop()[2])

@@ -98,23 +98,22 @@ pub record WasCopied {D N : Type 0} (g : device.Ghosts D) (h : device.Ghosts N) 
 abbrev pub WasRead : {D : Type 0} {g : device.Ghosts D} → Image → Option StoreFault → Rest D g → Type 0
 WasRead before fault rest = (stopped : Option StoreFault) × IfSome stopped (λ why. fault ≡ Some why) × EndsStretch before (exchange_of 1 [] [] stopped) rest
 
--- One spool was opened in files that held this. Its database had nothing else. Then it was asked for its
--- contents, which meet the purpose as they are, and let go.
-pub record WasNeedless {D : Type 0} {g : device.Ghosts D} (why : Purpose) (before : Image) (rest : Rest D g) : Type 0 where
+-- one spool was opened in files that held this, asked for its contents, and let go
+pub record WasAsked {D : Type 0} {g : device.Ghosts D} (before : Image) (rest : Rest D g) : Type 0 where
   pub opened : Spool (FileStore D g) over_files
   pub asked : Spool (FileStore D g) over_files
   pub contents : Contents
   pub started : Started before opened
-  pub alone : IsTrue (is_alone (disk opened).now.schema)
   pub read : IsQuestion AreContentsOf opened asked (Ok contents)
-  pub met : IsNeedless why contents
   pub gone : LetsGo asked rest
 
--- one spool was opened in files that held this, and its database had something else
-pub record WasShared (D : Type 0) (g : device.Ghosts D) (before : Image) : Type 0 where
-  pub opened : Spool (FileStore D g) over_files
-  pub started : Started before opened
-  pub shared : is_alone (disk opened).now.schema ≡ false
+-- its database had nothing else, and its contents meet the purpose as they are
+abbrev pub WasNeedless : {D : Type 0} {g : device.Ghosts D} → Purpose → Image → Rest D g → Type 0
+WasNeedless why before rest = (it : WasAsked before rest) × IsTrue (is_alone (disk it.opened).now.schema) × IsNeedless why it.contents
+
+-- its database had something else
+abbrev pub WasShared : {D : Type 0} {g : device.Ghosts D} → Image → Rest D g → Type 0
+WasShared before rest = (it : WasAsked before rest) × (is_alone (disk it.opened).now.schema ≡ false)
 
 module _ {D N : Type 0} {g : device.Ghosts D} (h : device.Ghosts N) where
   -- How a copy for this purpose ended of the spool in files that held this, into files that held
@@ -123,7 +122,7 @@ module _ {D N : Type 0} {g : device.Ghosts D} (h : device.Ghosts N) where
   IsCopied why before blank (copying.Whole old new) = WasCopied g h why before blank old new × LeavesClosed g before old × MayReplace g h why before blank old new
   IsCopied why before blank (copying.Long old) = LeavesClosed g before old
   IsCopied why before blank (copying.Needless rest) = WasNeedless why before rest × WasRead before None rest
-  IsCopied why before blank (copying.Shared rest) = WasShared D g before × WasRead before None rest
+  IsCopied why before blank (copying.Shared rest) = WasShared before rest × WasRead before None rest
   IsCopied why before blank (copying.Unread fault rest) = WasRead before (Some fault) rest
   IsCopied why before blank (copying.Unmade fault rest) = WasRead before None rest
 

@@ -12,6 +12,7 @@ use sqlite::{FileStore, Files, Start};
 use sqlite_disk::Disk;
 use std::alloc::Global;
 use std::mem::drop;
+use uu_renumber::laws::renumbered_spools_give_new_numbers;
 use uu_store::laws::{calls_make_a_stretch, short_logs_count_as_none};
 use uu_store::{
     Contents, OpenFault, Room, Spool, SpoolFile, StoreFault, has_short_log, open_spool,
@@ -126,6 +127,7 @@ fn needed_for(purpose: Purpose, contents: Contents) -> Option<Contents>
     ensures needed { IfSome result (Meets purpose contents.now) }
     ensures needless { result ≡ None → IsNeedless purpose contents.now }
 {
+    renumbered_spools_give_new_numbers();
     match purpose {
         Purpose::Shrink { length } if is_worth_it(length, contents.room()) => Some(contents),
         Purpose::Renumber { number } if contents.next() < number => {

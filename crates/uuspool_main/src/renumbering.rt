@@ -1,4 +1,6 @@
 //! Giving the next job a later number, as after the spool was put back from an earlier copy.
+ghost use Rattle.std.specs.Prelude.{◌≤◌, ◌<◌, IfOk, IfSome};
+ghost use Rattle.uu_core.specs.State.{numbers_end};
 
 use crate::copying::Purpose;
 use crate::logged::log_renumber;
@@ -44,18 +46,22 @@ fn renumber_in_turn(
 }
 
 /// The number of the words after `renumber`. A job may have it.
-pub(crate) fn number_of(rt: &HostRuntime, words: &[String]) -> Result<u32, Trouble> {
+pub(crate) fn number_of(rt: &HostRuntime, words: &[String]) -> Result<u32, Trouble>
+    ensures { IfOk result (λ number. (1 ≤ number) × (number < numbers_end)) }
+{
     match words {
         [word] => match job_number(word.as_str()) {
             Some(number) => Ok(number),
-            None => no_number(rt),
+            None => Err(no_number(rt)),
         },
-        _ => no_number(rt),
+        _ => Err(no_number(rt)),
     }
 }
 
 // The number that a text of digits has, if a job may have it.
-fn job_number(text: &str) -> Option<u32> {
+fn job_number(text: &str) -> Option<u32>
+    ensures { IfSome result (λ number. (1 ≤ number) × (number < numbers_end)) }
+{
     if text.starts_with('+') {
         return None;
     }
@@ -65,8 +71,11 @@ fn job_number(text: &str) -> Option<u32> {
     }
 }
 
-fn no_number(rt: &HostRuntime) -> Result<u32, Trouble> {
+// Why the words after `renumber` give none.
+fn no_number(rt: &HostRuntime) -> Trouble {
     let last = NUMBERS_END.saturating_sub(1);
-    let text = format!(in rt.alloc(); "uuspool: renumber takes one number, from 1 to {last}\n")?;
-    Err(Trouble::Line(Fault::Words { text, help: false }))
+    match format!(in rt.alloc(); "uuspool: renumber takes one number, from 1 to {last}\n") {
+        Ok(text) => Trouble::Line(Fault::Words { text, help: false }),
+        Err(_) => Trouble::Line(Fault::Memory),
+    }
 }

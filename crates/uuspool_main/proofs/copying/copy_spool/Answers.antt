@@ -41,16 +41,11 @@ returns-in-None g c before started shows =
     let ended = c.contents.new.self in
     let asked = c.in-Ok.ensures.question in
     let make = c.calls_make_a_stretch.ensures in (
-      record {
-        opened = begun;
-        asked = ended;
-        contents = c.in-Ok.contents;
-        started = started;
-        alone = sym c.is_alone-is_alone.ensures.exact ∙ c.if-is_alone.true;
-        read = asked;
-        met = c.in-None.ensures;
-        gone = c.let_go.ensures;
-      },
+      (
+        record { opened = begun; asked = ended; contents = c.in-Ok.contents; started = started; read = asked; gone = c.let_go.ensures },
+        sym c.is_alone-is_alone.ensures.exact ∙ c.if-is_alone.true,
+        c.in-None.ensures,
+      ),
       None,
       tt,
       ends before (exchange_of 1 [] [] None) ended
@@ -63,14 +58,17 @@ pub returns-in-Ok-2 : goal.returns-in-Ok-2
 returns-in-Ok-2 g c before started shows =
     let begun = c.args.spool in
     let ended = c.contents.new.self in
-    let ran = c.in-Ok-2.ensures.question.ran in
+    let asked = c.in-Ok-2.ensures.question in
     let make = c.calls_make_a_stretch.ensures in (
-      record { opened = begun; started = started; shared = sym c.is_alone-is_alone.ensures.exact ∙ c.else-is_alone.false },
+      (
+        record { opened = begun; asked = ended; contents = c.in-Ok-2.contents; started = started; read = asked; gone = c.let_go-in-Ok-2.ensures },
+        sym c.is_alone-is_alone.ensures.exact ∙ c.else-is_alone.false,
+      ),
       None,
       tt,
       ends before (exchange_of 1 [] [] None) ended
-          (λ store last numbered. make.let_go 1 before [] begun ended [] None store started ran last numbered)
-          (λ files close. make.closed 1 before [] begun ended [] None files started ran close)
+          (λ store last numbered. make.let_go 1 before [] begun ended [] None store started asked.ran last numbered)
+          (λ files close. make.closed 1 before [] begun ended [] None files started asked.ran close)
           c.let_go-in-Ok-2.result c.let_go-in-Ok-2.ensures,
     )
 

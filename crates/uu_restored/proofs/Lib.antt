@@ -1,0 +1,6 @@
+mod HistoryExamples
+mod SpoolLemmas
+mod HistoryInvariant
+mod HistoryEvents
+mod HistoryRuns
+mod HistoryLaws
