@@ -1,6 +1,7 @@
 """What the page makes of the program's answers, and of what is beside the spool."""
 import os
 import re
+import time
 
 from uuspool_calls import page
 from uuspool_calls.errors import Failure
@@ -89,6 +90,18 @@ class Pages(Folder):
         big = "send /big ~/big"
         self.assertEqual([("ann", "duke", "exec lp", "unknown"), ("ann", "duke", big, "too old"), ("unc!joe", "mysite", big, "no room")], found)
         self.assertLessEqual({"7", "9"}, {number for number, *_ in refused_in(f"{self.folder}/refused")})
+
+    def test_calls_of_many_systems(self) -> None:
+        """The time is in proportion to the lines, however many systems a command of a neighbour wrote into the log."""
+        lines = [["2026-11-28", f"12:{it // 30000:02}:00", f"s{it % 30000}", "ann", "-", "done", "done", "x"] for it in range(60000)]
+        began = time.process_time()
+        found = calls_of(lines, "mysite")
+        self.assertLess(time.process_time() - began, 10)
+        self.assertEqual((60000, "s29999", "s0"), (len(found), found[0].system, found[-1].system))
+
+    def test_one_call_has_a_line_for_each_job(self) -> None:
+        lines = [["2026-11-28", f"12:00:{it:02}", system, "ann", "7", "done", what, "x"] for it, (system, what) in enumerate((("duke", "done"), ("unc", "done"), ("duke", "unpack"), ("duke", "done")))]
+        self.assertEqual([("12:00:03", "duke", 2, 1), ("12:00:01", "unc", 1, 0)], [(it.clock, it.system, it.gone, it.came) for it in calls_of(lines, "mysite")])
 
     def test_an_old_log_with_a_date(self) -> None:
         line = "2026-11-28 {:02}:00:00 duke ann - done done duke\n"

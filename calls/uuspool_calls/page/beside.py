@@ -64,7 +64,8 @@ def calls_of(lines: Iterable[Sequence[str]], own: str) -> list[Made]:
     """The calls in a log. Each job that leaves or comes has a line of its own, and the last line
     of a call is `done` or `failed`. One `done` for each job is one call if less than a minute
     lies between them."""
-    calls: list[Made] = []
+    calls: list[Made | None] = []
+    places: dict[str, int] = {}  # of each system's last one
     moved: defaultdict[str, list[int]] = defaultdict(lambda: [0, 0])
     for _, clock, system, _, job, how, what, *words in lines:
         if system == own:
@@ -74,13 +75,14 @@ def calls_of(lines: Iterable[Sequence[str]], own: str) -> list[Made]:
         went = {("done", "done"): "done", ("done", "failed"): "failed: " + " ".join(words[1:])}.get((how, what))
         went = "called here" if how == "answered" else "not set up" if how == "not-set-up" else went
         if went:
-            last = next((call for call in reversed(calls) if call.system == system), None)
+            last = calls[places[system]] if system in places else None
             gone, came = moved.pop(system, (0, 0))
             if went == "done" and last and last.how == "done" and of_day(clock) - of_day(last.clock) < MINUTE:
-                calls.remove(last)
+                calls[places[system]] = None
                 gone, came = gone + last.gone, came + last.came
+            places[system] = len(calls)
             calls.append(Made(clock, system, went, gone, came))
-    return calls[::-1]
+    return [call for call in reversed(calls) if call]
 
 
 def of_day(clock: str) -> int:
