@@ -43,7 +43,7 @@ class Place:
         seen, own = os.fstat(self._parent), os.geteuid()
         if seen.st_uid not in (0, own) or seen.st_mode & _OTHERS_WRITE:
             raise Failure(LATER, f"others may write {self.parent}, or it belongs to another user, so that nothing takes the place of {self.path}: {BY_HAND}")
-        if os.fstat(self.handle).st_dev != seen.st_dev or os.path.ismount(self.path):
+        if _mount_of(self.handle) != _mount_of(self._parent):
             raise Failure(LATER, f"{self.path} is a mount point, so that no other folder takes its place: {BY_HAND}")
 
     def __enter__(self) -> "Place":
@@ -126,6 +126,12 @@ class Place:
 
     def _remove(self, name: str) -> None:
         shutil.rmtree(name, ignore_errors=True, dir_fd=self._parent)
+
+
+def _mount_of(handle: int) -> bytes:
+    """The number of the mount that an open folder is on."""
+    lines = (files.read_bytes(f"/proc/self/fdinfo/{handle}", 4096) or b"").splitlines()
+    return next((it for it in lines if it.startswith(b"mnt_id:")), b"")
 
 
 def _lock(handle: int, path: str) -> None:

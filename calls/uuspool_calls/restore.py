@@ -29,6 +29,7 @@ from .values import NamedTuple
 _USAGE = "usage: uuspool-restore [-n NUMBER] COPY"
 _LAST = 4294967294  # number of a job
 _DISTANCE = 1_000_000  # from the greatest number that is known, if the spool that is there can't be read
+_LITTLE = 1_000  # from that, otherwise, because a crash may have taken the ends of the spool and of the log
 _SETTINGS = "restoring.toml"  # with which the program works on what is made
 _PRESENT, _ITS_COPY = "present", "copy"  # folders in which the program reads copies of both spools
 _MOST = 1 << 28  # bytes that the program may print
@@ -108,9 +109,9 @@ class Restoration:
                 self._place.expect_nobody()
                 path = self._exchange(made)
         self._tell(gone, said, number, path)
-        kept = {job.number for job in copy.jobs}
+        known = {job.number for job in copy.jobs} | said.gone.keys()
         for job in present.jobs:
-            if job.number not in kept:
+            if job.number not in known:
                 self._session.print(f"not in the copy: job {_shown(job)}")
 
     def _begun(self, room: Target, name: str) -> Target:
@@ -288,12 +289,12 @@ def _wanted(folder: str, left: Collection[int]) -> Callable[[str], bool]:
 
 
 def _number(least: int, copys: int, presents: int, greatest: int) -> int:
-    """The next number: that of the spool that is there, or of the copy or the log if they know a greater one. If the first can't be
-    read, others may have been given, so it is much greater."""
+    """The next number: above that of the spool that is there, of the copy, and each in the log. If the first can't be read, many more
+    may have been given."""
     known = max(copys, presents, greatest + 1)
     if 0 < least < known:
-        raise Failure(USAGE, f"-n {least} is too small, because {known - 1} was given: say {known} or more")
-    number = least or (known if presents else known + _DISTANCE)
+        raise Failure(USAGE, f"-n {least} is too small, because numbers up to {known - 1} may have been given: say {known} or more")
+    number = least or known + (_LITTLE if presents else _DISTANCE)
     if number > _LAST:
         raise Failure(LATER, f"no number above {known} is certainly new: say one by -n")
     return number
