@@ -99,7 +99,7 @@ class Restoration:
             its_turn.wait_for_it(self._pause)
             present = self._present(room, its_turn, stack)
             said = logged.read(self._settings.log, self._owner, self._source.moment())
-            self.faults += said.faults
+            self.faults += (f"{it}, so jobs of which it says that they are done may wait again" for it in said.faults)
             number = _number(least, copy.next, present.next, said.greatest)
             gone = [job for job in copy.jobs if job.number in said.gone]
             self._change(made, number, gone)
@@ -212,16 +212,18 @@ class Restoration:
         with Copier([self._place.seen.st_uid], self._owner) as copier:
             for name in sorted(names):
                 self._carry(name, made, copier, left)
-            copier.finish()
-            self.faults += copier.left_out
+            self._finish(copier)
         with Copier([self._place.seen.st_uid]) as copier:
             for name in BESIDE:
                 if name not in names:
                     self._source.take(name, made, copier)
-            copier.finish()
-            self.faults += copier.left_out
+            self._finish(copier)
         self._put(made, restored.NAME, f"{number}\n")
         made.sync()
+
+    def _finish(self, copier: Copier) -> None:
+        copier.finish()
+        self.faults += (f"{it}, so it is not brought over" for it in copier.left_out)
 
     def _is_carried(self, name: str) -> bool:
         is_spools = name.removeprefix(self._source.name) in _ENDS or name == restored.NAME
@@ -235,26 +237,23 @@ class Restoration:
             copier.take(path, made.folder(name), _wanted(name, left))
         elif stat.S_ISLNK(seen.st_mode):
             os.symlink(os.readlink(name, dir_fd=self._place.handle), name, dir_fd=made.handle)
-        elif stat.S_ISREG(seen.st_mode) and name not in self._logs():
-            copier.take_file(path, made, name)
 
-    def _logs(self) -> list[str]:
-        """The files of the log that are in the spool's folder, and aren't links."""
-        folder, name = os.path.split(self._settings.log)
-        names = logged.rotated(os.listdir(self._place.handle), name) if os.path.realpath(folder) == self._place.path else []
-        return [it for it in names if stat.S_ISREG(os.stat(it, dir_fd=self._place.handle, follow_symlinks=False).st_mode)]
+    def _files(self) -> list[str]:
+        """The files beside the spool that are no folders and no links, such as the settings or the log, and the lock."""
+        seen = {it: files.look(it, self._place.handle, follows=False) for it in os.listdir(self._place.handle)}
+        names = [name for name, its in seen.items() if its and stat.S_ISREG(its.st_mode) and self._is_carried(name)]
+        return [f"{self._source.name}-lock", *sorted(names)]
 
     def _exchange(self, made: Target) -> str:
-        """Where the folder that was there is then. Both have one lock, so that a line that waits with it, and has the path of the
-        new spool, keeps its turn. So it is with the log."""
-        moved = [f"{self._source.name}-lock", *self._logs()]
-        with acting_as(self._owner):
-            for name in moved:
-                os.link(name, name, src_dir_fd=self._place.handle, dst_dir_fd=made.handle, follow_symlinks=False)
+        """Where the folder that was there is then. These files stay the same. So a line that waits with the lock, and has the path of
+        the new spool, keeps its turn, and no line of the log is lost. (No link is followed, and a name in the folder of the
+        spool's user becomes another one there.)"""
+        moved = self._files()
+        for name in moved:
+            os.link(name, name, src_dir_fd=self._place.handle, dst_dir_fd=made.handle, follow_symlinks=False)
         path = self._place.exchange(made, self._source.name)
-        with acting_as(self._owner):
-            for name in moved:
-                os.unlink(name, dir_fd=self._place.handle)
+        for name in moved:
+            os.unlink(name, dir_fd=self._place.handle)
         return path
 
     # ---- what is told
