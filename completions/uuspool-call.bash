@@ -12,12 +12,13 @@ _uuspool_call() {
     uuspool-sys) options='-n' ;;
     uuspool-setup) options='--from-taylor -k --no-call' ;;
     uuspool-backup) options='-k' ;;
+    uuspool-restore) options='-n' ;;
     uuspool-check) options='--metrics --monitor -s -w -c -W -C -r -m' ;;
     uuspool-log | uulog) options='-s -u -f -F -n' ;;
     esac
     COMPREPLY=()
     case $command:$before in
-    uuspool-call:-g | uuspool-night:-p | uuspool-expire:-w | uuspool-log:-[un] | uulog:-[un] | uuspool-backup:-k | uuspool-check:-[wcWCrm]) return ;;
+    uuspool-call:-g | uuspool-night:-p | uuspool-expire:-w | uuspool-log:-[un] | uulog:-[un] | uuspool-backup:-k | uuspool-restore:-n | uuspool-check:-[wcWCrm]) return ;;
     uuspool-log:-s | uulog:-s | uuspool-check:-s | uuspool-check:--metrics) ;;
     *) mapfile -t COMPREPLY < <(compgen -W "$options" -- "$word") ;;
     esac
@@ -26,7 +27,7 @@ _uuspool_call() {
     uuspool-setup:2:*) words='ssh folder command uucico taylor key seal' ;;
     uuspool-hold:2:*) words='off' ;;
     uuspool-setup:*:folder) mapfile -t COMPREPLY < <(compgen -d -- "$word") ;;
-    uuspool-backup:*) mapfile -t -O ${#COMPREPLY[@]} COMPREPLY < <(compgen -d -- "$word") ;;
+    uuspool-backup:* | uuspool-restore:*) mapfile -t -O ${#COMPREPLY[@]} COMPREPLY < <(compgen -d -- "$word") ;;
     uuspool-setup:*:command | uuspool-sys:* | uuspool-check:*:--metrics) mapfile -t -O ${#COMPREPLY[@]} COMPREPLY < <(compgen -f -- "$word") ;;
     # The neighbours that there is a way to call.
     uuspool-call:* | uuspool-move:* | uuspool-hold:1:* | uuspool-setup:1:* | uuspool-answer:* | *log:*:-s | uuspool-check:*:-s)
@@ -37,4 +38,4 @@ _uuspool_call() {
 }
 
 complete -F _uuspool_call uuspool-call uuspool-night uuspool-answer uuspool-hold uuspool-deliver \
-    uuspool-refuse uuspool-expire uuspool-move uuspool-setup uuspool-check uuspool-sys uuspool-backup uuspool-log uulog
+    uuspool-refuse uuspool-expire uuspool-move uuspool-setup uuspool-check uuspool-sys uuspool-backup uuspool-restore uuspool-log uulog

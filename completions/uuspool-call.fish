@@ -7,7 +7,7 @@ function __uuspool_neighbours
     command ls -- $entries/calls 2>/dev/null
 end
 
-for name in call night answer hold deliver refuse expire move setup check sys backup log
+for name in call night answer hold deliver refuse expire move setup check sys backup restore log
     complete -c uuspool-$name -f
 end
 complete -c uulog -f
@@ -28,6 +28,8 @@ complete -c uuspool-sys -F
 complete -c uuspool-hold -a off
 complete -c uuspool-backup -s k -x -d 'How many copies stay'
 complete -c uuspool-backup -a '(__fish_complete_directories)'
+complete -c uuspool-restore -s n -x -d 'The number of the next job'
+complete -c uuspool-restore -a '(__fish_complete_directories)'
 complete -c uuspool-check -l metrics -r -F -d 'Writes figures for Prometheus'
 complete -c uuspool-check -l monitor -d 'One line and a status for a monitor'
 set -l monitor __fish_contains_opt monitor

@@ -8,7 +8,7 @@ import subprocess
 import time
 from unittest import mock
 
-from uuspool_calls import backup, copies, turn
+from uuspool_calls import backup, copies, source, turn
 from uuspool_calls.errors import Failure
 
 from .standins import Folder, Quiet
@@ -268,7 +268,7 @@ class Kept(Folder):
             ("duke.json", True), ("7", True), ("keys", True), ("3.untold", True), ("a.answer.b.json", True), ("x.lock", False), (".lock", False), ("7.works", False),
             ("radio.port", False), ("duke.answer.3", False), ("duke.waits", False), (".duke.json.new", False), ("new", True),
         ):  # fmt: skip
-            self.assertEqual(kept, backup._is_kept(name), name)
+            self.assertEqual(kept, source.is_kept(name), name)
 
     def test_which_copies_stay(self) -> None:
         names = [f"mysite.2026110{day}T000000Z{end}" for day, end in ((1, ""), (2, ""), (2, ".2"), (2, ".10"), (3, ""))]

@@ -15,19 +15,18 @@ import stat
 import time
 from collections.abc import Iterator, Sequence
 
-from . import clock, files, options, settings, turn
+from . import clock, files, options, restored, settings, turn
 from .copies import Copier, Target
 from .errors import LATER, NOT_SET_UP, USAGE, Failure
 from .processes import Program
 from .session import Session, acting_as
 from .site import find_from_anywhere, has_bytes, owner_of
+from .source import BESIDE, is_kept
 from .texts import is_number, one_line
 
 _USAGE = "usage: uuspool-backup [-k COPIES] DIR"
 _NEW = ".new"
 _COPY = re.compile(r"([A-Za-z0-9._-]+)\.([0-9]{8}T[0-9]{6}Z)(?:\.([0-9]+))?\Z")  # of which site, when, and its number in that second
-_LOCKS = re.compile(r".*(\.lock|\.works|\.port|\.waits|\.answer\.[0-9]+)\Z|\..*\.new\Z", re.S)
-_BESIDE = ("calls", "deliver", "refused", "moves", "pieces")  # folders
 _FOLDER = os.O_RDONLY | os.O_DIRECTORY | os.O_CLOEXEC
 _OTHERS_WRITE = 0o022
 _CHECK = "check.toml"  # the settings with which a copy is checked
@@ -186,9 +185,10 @@ class Backup:
                 target.put(name, spool)
                 self._put(f"{found.spool}-wal", target, f"{name}-wal")
             copier.take_file(f"{found.spool}-word", target, f"{name}-word")
-            for folder in _BESIDE:
+            copier.take_file(f"{found.folder}/{restored.NAME}", target, restored.NAME)
+            for folder in BESIDE:
                 if os.path.isdir(f"{found.folder}/{folder}"):
-                    copier.take(f"{found.folder}/{folder}", target.folder(folder), _is_kept)
+                    copier.take(f"{found.folder}/{folder}", target.folder(folder), is_kept)
 
     def _expect_word(self, target: Target) -> None:
         word = f"{self._settings.spool}-word"
@@ -246,8 +246,3 @@ class Backup:
             files.remove(f"{folder}/{made}")
         if ended.status:
             self.faults.append(f"the spool of the copy cannot be opened: {one_line(ended.output)}")
-
-
-def _is_kept(name: str) -> bool:
-    """Whether a file beside the spool says something. Locks don't, nor do files that are being written."""
-    return _LOCKS.match(name) is None

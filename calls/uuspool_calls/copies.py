@@ -56,11 +56,17 @@ class Target:
             part.sync()
         for name in os.listdir(self.handle):
             if stat.S_ISREG(os.stat(name, dir_fd=self.handle, follow_symlinks=False).st_mode):
-                with files.opened(name, os.O_RDONLY | os.O_NOFOLLOW, folder=self.handle) as handle:
+                with files.opened(name, os.O_RDONLY | os.O_NOFOLLOW | os.O_NONBLOCK, folder=self.handle) as handle:
                     os.fsync(handle)
         if self.like:
             _make_like(self.handle, self.like)
         os.fsync(self.handle)
+
+    def remove(self, name: str) -> None:
+        """Removes a folder in it."""
+        import shutil  # (takes long to load)
+
+        shutil.rmtree(name, ignore_errors=True, dir_fd=self.handle)
 
     def close(self) -> None:
         """Closes the folders."""

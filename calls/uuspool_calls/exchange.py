@@ -33,7 +33,7 @@ class Taken:
         self.settled, self.unpacked = settled, unpacked
         self.later = later  # why its jobs aren't taken now
         self.reply = reply  # to a bundle without jobs, if it was made at once
-        self.requeued = 0
+        self.requeued = self.removed = 0
         self.faults: list[str] = []  # at the neighbour, the last of which counts
         self.own_fault = ""  # at this site
 
@@ -50,7 +50,7 @@ class Taken:
     @property
     def makes_room(self) -> bool:
         """Whether more of our jobs may go now."""
-        return len(self.settled.done) + self.requeued > 0
+        return len(self.settled.done) + self.requeued + self.removed > 0
 
 
 def finish_moves(site: Site, neighbour: str) -> bool:
@@ -191,11 +191,13 @@ class Neighbour:
 
     def _heed_refusals(self, taken: Taken) -> None:
         """Handles the jobs that the neighbour's spool refuses. Under its number and mark it never takes
-        such a job again, so the job gets another number. If this site's spool was put back or got
-        another word, the job may have come before, and then comes twice."""
+        such a job again, so the job gets another number, unless it was done before this site's spool was put back. If the spool
+        was put back by hand or got another word, the job may have come before, and then comes twice."""
         passed = False
         for refused in taken.settled.refused:
-            if refused.reason in ("Differs", "Stale"):
+            if refused.reason == "Stale" and self._is_of_a_copy(refused.number):
+                self._remove_done(taken, refused.number)
+            elif refused.reason in ("Differs", "Stale"):
                 times = 1
                 if refused.reason == "Stale" and not passed:
                     times, passed = self._numbers_to_pass(), True
@@ -206,6 +208,26 @@ class Neighbour:
                 taken.faults.append(f"the sys file of {self._name} has to define {self._name}, its own name")
             else:
                 taken.faults.append(f"the spool of {self._name} refuses job {refused.number}: {refused.reason}")
+
+    def _is_of_a_copy(self, number: int) -> bool:
+        """Whether a job was in a copy that was put back. (Those that were queued since have greater numbers.)"""
+        from . import restored
+
+        return number < restored.number_in(self._site.folder)
+
+    def _remove_done(self, taken: Taken, number: int) -> None:
+        """Removes a job of a copy that was put back. The neighbour was told that no job of its number comes any more, so it had
+        the job before, or the job was killed here before."""
+        parcel = self._site.spool.show(number)
+        if parcel is None:
+            return  # (somebody removed it meanwhile)
+        try:
+            self._site.spool.kill(parcel.job)
+        except SpoolError as error:
+            taken.faults.append(f"job {number} was done before the spool was put back, and cannot be removed: {error}")
+            return
+        taken.removed += 1
+        self._site.log.note(self._name, parcel.job.user, number, "done-before", parcel.job.what)
 
     def _refuse(self, number: int) -> None:
         from .refusals import Refuser, tell

@@ -5,6 +5,7 @@ from collections.abc import Iterable
 
 _KEYCTL = {"x86_64": 250, "aarch64": 219, "riscv64": 219, "ppc64le": 271, "s390x": 280}  # its number at each machine
 _JOIN_SESSION_KEYRING = 1
+_EXCHANGE = 2
 
 
 def called(number: int, *words: int | bytes | None) -> int:
@@ -28,6 +29,11 @@ def leave_keyring() -> None:
     except OSError as error:
         if error.errno not in (errno.ENOSYS, errno.EPERM):
             raise
+
+
+def exchange(folder: int, name: str, other_folder: int, other: str) -> None:
+    """Exchanges what two names in open folders stand for, in one step (renameat2)."""
+    _answer("renameat2", folder, os.fsencode(name), other_folder, os.fsencode(other), _EXCHANGE)
 
 
 def _answer(function: str, *words: int | bytes | None) -> int:

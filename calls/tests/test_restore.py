@@ -1,0 +1,296 @@
+"""What the log says of jobs, where a copy is put back, and what is done with a job that a neighbour had before."""
+import fcntl
+import gzip
+import os
+import pwd
+import stat
+import subprocess
+from unittest import mock
+
+from uuspool_calls import kernel, logged, place, restore, restored, source
+from uuspool_calls.copies import Target
+from uuspool_calls.errors import Failure, SpoolError
+from uuspool_calls.exchange import Neighbour
+from uuspool_calls.settings import Settings
+from uuspool_calls.spool import Refused, Settled
+
+from .standins import LINE, Folder, Quiet, StandIn, parcel, site
+
+DAY = "2026-11-28"
+
+
+def line(hour: int, number: int | str, what: str, how: str = "done") -> str:
+    """A line of the log."""
+    return f"{DAY} {hour:02}:00:00 duke ann {number} {how} {what}\n"
+
+
+class Log(Folder):
+    def said(self, hour: int = 12) -> logged.Said:
+        return logged.read(f"{self.folder}/log", "", f"{DAY} {hour:02}:00:00")
+
+    def test_which_jobs_are_gone(self) -> None:
+        others = line(2, 8, "kill 8", "NoJob") + line(2, 9, "x", "waits") + line(2, "-", "load") + "settle\n\n" + line(2, "1" * 30, "kill") + line(2, "x", "kill")
+        self.put("log", line(1, 3, "send a b") + line(13, 1, "settle") + line(14, 2, "done duke") + line(15, 3, "kill 3") + line(16, 7, "exec x") + others)
+        said = self.said()
+        self.assertEqual({1: "settle", 2: "done", 3: "kill"}, {number: it.how for number, it in said.gone.items()})
+        self.assertEqual((f"{DAY} 15:00:00", 7, []), (said.gone[3].moment, said.greatest, said.faults))
+
+    def test_each_init_begins_another_spool(self) -> None:
+        self.put("log", line(1, 1, "kill 1") + line(2, "-", "init") + line(3, 2, "kill 2") + line(4, "-", "init") + line(5, 9, "kill 9"))
+        for hour, gone, greatest in (1, [1], 1), (3, [2], 2), (6, [9], 9):
+            said = self.said(hour)
+            self.assertEqual((gone, greatest), (sorted(said.gone), said.greatest))
+
+    def test_files_of_logrotate(self) -> None:
+        names = ["log", "log.1", "log.10.gz", "log.2", "log-20261101", "log-20261101-1", "log-20261102.gz", "log.x", "log.1.old", "blog", "log.gz"]
+        wanted = ["log-20261101", "log-20261101-1", "log-20261102.gz", "log.10.gz", "log.2", "log.1"]
+        self.assertEqual(wanted, [it for it in logged.rotated(names, "log") if it not in ("log", "log.gz")])
+        self.put("log.2.gz", gzip.compress(line(1, 1, "kill 1").encode()))
+        self.put("log.1", line(2, 2, "kill 2"))
+        self.put("log", line(3, 3, "kill 3"))
+        self.assertEqual(([1, 2, 3], []), (sorted(self.said().gone), self.said().faults))
+
+    def test_what_cannot_be_read(self) -> None:
+        self.put("log.3.gz", gzip.compress(line(1, 1, "kill 1").encode() * 100)[:-9])
+        self.put("log.2.gz", "no gzip")
+        os.mkfifo(f"{self.folder}/log.1")
+        os.symlink(self.put("roots", line(1, 9, "kill 9")), f"{self.folder}/log.4")
+        said = self.said()
+        self.assertEqual([1], sorted(said.gone))
+        self.assertEqual(["log.4", "log.3.gz", "log.2.gz", "log.1"], [it.partition(":")[0].rpartition("/")[2] for it in said.faults])
+        self.assertEqual(1, len(logged.read("/nowhere/log", "", DAY).faults))
+
+    def test_a_file_of_holes_takes_no_memory(self) -> None:
+        self.put("log", "x")
+        os.truncate(f"{self.folder}/log", 1 << 42)
+        self.put("log.1", line(1, 1, "kill 1"))
+        with mock.patch.object(logged, "_MOST", 1 << 20):
+            self.put("log.2.gz", gzip.compress(b"x" * (1 << 22)))
+            said = self.said()
+        self.assertEqual(([1], ["log.2.gz: has more than 1 MiB, which aren't read"]), (sorted(said.gone), [it.rpartition("/")[2] for it in said.faults]))
+
+    def test_the_owner_opens_it(self) -> None:
+        """root's file, to which the spool's user has a link."""
+        os.chmod(self.folder, 0o755)
+        self.put("roots", line(1, 9, "kill 9"), 0o600)
+        self.give(self.put("s/log.1", line(1, 1, "kill 1")))
+        os.symlink(f"{self.folder}/roots", f"{self.folder}/s/log")
+        said = logged.read(f"{self.folder}/s/log", pwd.getpwuid(1).pw_name, DAY)
+        self.assertEqual(({}, 1), (said.gone, len(said.faults)))
+
+
+class Places(Folder):
+    def setUp(self) -> None:
+        super().setUp()
+        self.put("site/spool.db", "before")
+        self.put("site/refused/3", "why")
+        self.path = f"{self.folder}/site"
+
+    def made(self, its: place.Place) -> Target:
+        target = its.begin().folder(place.INNER, its.seen)
+        with open(self.put("after", "after"), "rb") as file:
+            target.put("spool.db", file.fileno())
+        target.sync()
+        return target
+
+    def test_the_folders_are_exchanged(self) -> None:
+        with place.Place(self.path, "") as its:
+            before = its.exchange(self.made(its), "spool.db")
+        self.assertEqual((b"after", ["spool.db"]), (self.bytes_of("site/spool.db"), os.listdir(self.path)))
+        self.assertEqual(["refused", "spool.db.aside"], sorted(os.listdir(before)))
+        self.assertEqual(0o700, stat.S_IMODE(os.stat(os.path.dirname(before)).st_mode))
+        self.assertRegex(before, r"/site\.before\.[0-9]{8}T[0-9]{6}Z/spool$")
+
+    def test_a_second_one_in_the_same_second(self) -> None:
+        with mock.patch("uuspool_calls.clock.now", return_value=1_800_000_000):
+            for _ in range(2):
+                with place.Place(self.path, "") as its:
+                    its.exchange(self.made(its), "spool.db")
+        self.assertEqual(2, sum(".before." in it for it in os.listdir(self.folder)))
+
+    def test_what_fails_leaves_nothing(self) -> None:
+        with self.assertRaises(KeyError), place.Place(self.path, "") as its:
+            self.made(its)
+            raise KeyError
+        self.assertEqual((["after", "site"], b"before"), (sorted(os.listdir(self.folder)), self.bytes_of("site/spool.db")))
+
+    def test_a_file_system_that_cannot_exchange(self) -> None:
+        with mock.patch.object(kernel, "exchange", side_effect=OSError(22, "Invalid argument")), self.assertRaisesRegex(Failure, "no other folder can take the place of .*: put the copy back by hand"):
+            with place.Place(self.path, "") as its:
+                its.exchange(self.made(its), "spool.db")
+        self.assertEqual((["after", "site"], b"before"), (sorted(os.listdir(self.folder)), self.bytes_of("site/spool.db")))
+
+    def test_what_a_killed_run_left_is_removed_unless_it_goes_on(self) -> None:
+        self.put("site.restoring/spool/spool.db", "x")
+        with place.Place(self.path, "") as its:
+            room = its.begin()
+            self.assertEqual([], os.listdir(room.handle))
+            with place.Place(self.path, "") as other, self.assertRaisesRegex(Failure, "another uuspool-restore works in"):
+                other.begin()
+        os.symlink(self.folder, f"{self.path}.restoring")
+        with place.Place(self.path, "") as its, self.assertRaises(OSError):
+            its.begin()
+
+    def test_who_works_there(self) -> None:
+        with place.Place(self.path, "") as its:
+            own = f"process {os.getpid()}"
+            its.expect_nobody()
+            for how in {"cwd": self.path}, {"cwd": f"{self.path}/refused"}, {"stdin": os.open(f"{self.path}/spool.db", os.O_RDONLY)}:
+                with subprocess.Popen(["sleep", "60"], **how) as other:  # type: ignore[call-overload]
+                    with self.assertRaisesRegex(Failure, rf"^process {other.pid} \(.*\) has {self.path}"):
+                        its.expect_nobody()
+                    self.assertFalse([it for it in its.workers() if own in it])
+                    other.kill()
+            self.put("site2/x")
+            with subprocess.Popen(["sleep", "60"], cwd=f"{self.folder}/site2") as other:
+                its.expect_nobody()
+                other.kill()
+
+    def test_a_parent_that_others_write(self) -> None:
+        os.chmod(self.folder, 0o777)
+        with self.assertRaisesRegex(Failure, "others may write"):
+            place.Place(self.path, "")
+        os.chmod(self.folder, 0o755)
+        self.give(self.folder)
+        with self.assertRaisesRegex(Failure, "belongs to another user"):
+            place.Place(self.path, "")
+
+    def test_a_mount_point(self) -> None:
+        with mock.patch.object(place, "_mount_of", side_effect=[b"1", b"2"]), self.assertRaisesRegex(Failure, "is a mount point, so that no other folder takes its place: put the copy back by hand"):
+            place.Place(self.path, "")
+
+    def test_a_link_in_the_place_of_the_spool(self) -> None:
+        """The spool's user has put it there: nothing but its name changes."""
+        os.remove(f"{self.path}/spool.db")
+        os.symlink(self.put("roots", "root's"), f"{self.path}/spool.db")
+        with place.Place(self.path, "") as its:
+            before = its.exchange(self.made(its), "spool.db")
+        self.assertTrue(os.path.islink(f"{before}/spool.db.aside"))
+        self.assertEqual(b"root's", self.bytes_of("roots"))
+
+
+class Sources(Folder):
+    def setUp(self) -> None:
+        super().setUp()
+        self.copy = f"{self.folder}/mysite.20261128T154726Z"
+        for name, text in ("spool.db", "x"), ("spool.db-wal", "y"), ("spool.db-word", "w1\n"), ("refused/3", "why"):
+            self.put(f"mysite.20261128T154726Z/spool/{name}", text)
+        self.settings = self.put("mysite.20261128T154726Z/settings.toml", 'name = "mysite"\n')
+        self.found = Settings("mysite", "/etc/uuspool.toml", "/", "/s/spool.db", "/log", "UTC0")
+
+    def source(self) -> source.Source:
+        return source.Source(self.copy, self.found, os.geteuid())
+
+    def test_what_it_has(self) -> None:
+        with self.source() as its:
+            self.assertEqual(("w1", f"{DAY} 15:47:26"), (its.word, its.moment()))
+            target = Target(f"{self.folder}/target")
+            its.put_spool(target)
+        self.assertEqual([b"x", b"y", b"w1\n"], [self.bytes_of(f"target/spool.db{end}") for end in ("", "-wal", "-word")])
+        os.rename(self.copy, f"{self.folder}/renamed")
+        self.copy = f"{self.folder}/renamed"
+        os.utime(f"{self.copy}/spool/spool.db", (0, 0))
+        os.utime(f"{self.copy}/spool/spool.db-wal", (86400, 86400))
+        with self.source() as its:
+            self.assertEqual("1970-01-02 00:00:00", its.moment())
+
+    def test_what_is_no_copy_of_this_site(self) -> None:
+        self.put("mysite.20261128T154726Z/settings.toml", 'name = "unc"\n')
+        self.refuses("is a copy of another site, unc: name a copy of mysite")
+        self.put("mysite.20261128T154726Z/settings.toml", "name = [")
+        self.source().__exit__()
+        os.remove(f"{self.copy}/spool/spool.db-word")
+        self.refuses("has no file spool.db-word, so neighbours would take its jobs for others")
+        os.remove(f"{self.copy}/spool/spool.db")
+        self.refuses("has no file spool.db, which /etc/uuspool.toml names")
+        os.rename(f"{self.copy}/spool", f"{self.copy}/elsewhere")
+        os.symlink("elsewhere", f"{self.copy}/spool")
+        self.refuses("has no folder spool")
+        os.chmod(self.copy, 0o777)
+        self.refuses("others may write")
+        self.copy = "/nowhere"
+        self.refuses("No such file or directory: name a folder that uuspool-backup made")
+
+    def refuses(self, why: str) -> None:
+        with self.assertRaisesRegex(Failure, why):
+            self.source()
+
+    def test_files_of_others_and_links(self) -> None:
+        os.rename(f"{self.copy}/spool/spool.db-word", f"{self.folder}/word")
+        os.symlink(f"{self.folder}/word", f"{self.copy}/spool/spool.db-word")
+        self.refuses("spool.db-word: Too many levels of symbolic links")
+        os.remove(f"{self.copy}/spool/spool.db-word")
+        os.rename(f"{self.folder}/word", f"{self.copy}/spool/spool.db-word")
+        self.give(f"{self.copy}/spool/spool.db-word")
+        self.refuses("belongs to user 1, not 0: correct it by chown")
+
+
+class Numbers(Folder):
+    def test_the_number(self) -> None:
+        for least, copys, presents, greatest, number in (0, 5, 9, 7, 1009), (0, 5, 9, 20, 1021), (0, 5, 0, 7, 1_000_008), (0, 50, 0, 7, 1_000_050), (9, 5, 9, 7, 9), (70, 5, 0, 7, 70):
+            self.assertEqual(number, restore._number(least, copys, presents, greatest))
+        for least, greatest, why in (8, 8, "numbers up to 8 may have been given: say 9 or more"), (0, 4294967000, "say one by -n"):
+            with self.assertRaisesRegex(Failure, why):
+                restore._number(least, 5, 5, greatest)
+
+    def test_words(self) -> None:
+        for words in [], ["a", "b"], ["-n", "0", "a"], ["-n", "x", "a"], ["-n", "4294967295", "a"], ["-n7"], ["-x", "a"]:
+            with self.assertRaisesRegex(Failure, "usage: "):
+                restore.run(Quiet(self.folder), words)
+
+    def test_the_number_that_is_kept(self) -> None:
+        self.assertEqual(0, restored.number_in(self.folder))
+        for text, number in ("", 0), ("1000\n", 1000), ("x", 0), ("-1", 0), ("1" * 30, 0):
+            self.put("restored", text)
+            self.assertEqual(number, restored.number_in(self.folder))
+
+    def test_which_notes_of_taylor_are_brought_over(self) -> None:
+        wanted, other = restore._wanted("taylor", {3}), restore._wanted("deliver", {3})
+        for name, is_taylors, is_others in ("3.json", True, True), ("4.json", False, True), ("begun.json", True, True), ("3.lock", False, False):
+            self.assertEqual((is_taylors, is_others), (wanted(name), other(name)))
+
+
+class Stale(Folder):
+    def setUp(self) -> None:
+        super().setUp()
+        self.spool = StandIn([parcel(), parcel(LINE.replace("7 ", "2000 ", 1))])
+        self.site = site(self.folder, self.spool)
+
+    def take(self, number: int, reason: str = "Stale") -> list[str]:
+        self.spool.settled = Settled((), (Refused(number, reason),))
+        taken = Neighbour(self.site, "duke", []).take(b"bundle\nhas 3 5\n")
+        self.counts = taken.removed, taken.requeued, taken.makes_room
+        return taken.faults
+
+    def test_a_job_of_the_copy_was_done_before(self) -> None:
+        self.put("restored", "2000\n")
+        self.assertEqual([], self.take(7))
+        self.assertEqual(((1, 0, True), ["duke ann 7 done-before exec rmail joe"], [2000]), (self.counts, self.site.log, sorted(self.spool.parcels)))
+        self.assertEqual([], self.take(7))
+        self.assertEqual((0, 0, False), self.counts)
+
+    def test_other_jobs_are_queued_anew(self) -> None:
+        self.put("restored", "2000\n")
+        for number, reason in (2000, "Stale"), (7, "Differs"):
+            self.take(number, reason)
+            self.assertEqual((0, 1, True), self.counts)
+
+    def test_a_spool_that_never_was_put_back(self) -> None:
+        self.take(7)
+        self.assertEqual((0, 1, True), self.counts)
+
+    def test_a_job_that_cannot_be_removed(self) -> None:
+        self.put("restored", "2000\n")
+        self.spool.fails["kill"] = SpoolError(3, "uuspool: spool: store")
+        self.assertEqual(["job 7 was done before the spool was put back, and cannot be removed: uuspool: spool: store"], self.take(7))
+
+
+class Locks(Folder):
+    def test_one_at_a_time(self) -> None:
+        handle = os.open(self.folder, os.O_RDONLY)
+        fcntl.flock(handle, fcntl.LOCK_EX)
+        other = os.open(self.folder, os.O_RDONLY)
+        with self.assertRaisesRegex(Failure, "another uuspool-restore works in x"):
+            place._lock(other, "x")
+        for it in handle, other:
+            os.close(it)

@@ -1,0 +1,129 @@
+"""What the log says of the jobs of a spool: which are gone, and the greatest number that was given. The file is read, and those
+that logrotate made of it, oldest first."""
+import contextlib
+import os
+import re
+from collections.abc import Iterator
+
+from . import turn
+from .session import acting_as
+from .values import Any, NamedTuple
+
+_MOST = 1 << 28  # bytes of a file, from its end
+_MOST_OF_A_LINE = 1 << 16
+_FOLDER = os.O_RDONLY | os.O_DIRECTORY | os.O_CLOEXEC
+_ENDS = re.compile(r"(?:\.([0-9]{1,4})|-([0-9]{8}(?:-[0-9]+)?))?(\.gz)?\Z")  # of a file that logrotate made
+_GOES = (b"settle", b"done", b"kill")  # the lines that remove a job
+
+
+class Line(NamedTuple):
+    """A line about a job that is gone."""
+
+    moment: str
+    how: str
+
+
+class Said(NamedTuple):
+    """What the log says of a spool."""
+
+    gone: dict[int, Line]
+    greatest: int  # number of a job, or 0
+    faults: list[str]  # what couldn't be read, and why
+
+
+def read(path: str, owner: str, moment: str) -> Said:
+    """What the log at a path says of the spool that there was at a moment. Each `init` begins another spool. For root the
+    owner of the spool opens the files, who may put links there."""
+    gone: dict[int, Line] = {}
+    faults: list[str] = []
+    greatest = 0
+    for words in _lines(path, owner, faults):
+        at = b" ".join(words[:2]).decode(errors="replace")
+        if words[6] == b"init":
+            if at > moment:
+                break
+            gone, greatest = {}, 0
+        elif words[4].isdigit():
+            number = int(words[4])
+            greatest = max(greatest, number)
+            if words[6] in _GOES:
+                gone[number] = Line(at, words[6].decode())
+    return Said(gone, greatest, faults)
+
+
+def _lines(path: str, owner: str, faults: list[str]) -> Iterator[list[bytes]]:
+    """The words of each line that says that something was done: two of the moment, the system, the user, the number, `done`,
+    and what was done."""
+    for file in _opened(path, owner, faults):
+        with file:
+            try:
+                while line := file.readline(_MOST_OF_A_LINE):
+                    words = line.split(maxsplit=7)
+                    if len(words) > 6 and words[5] == b"done" and len(words[4]) < 20:
+                        yield words
+            except (OSError, EOFError, ValueError) as error:
+                faults.append(f"{file.name}: {error}")
+
+
+def _opened(path: str, owner: str, faults: list[str]) -> Iterator["_File"]:
+    """The files of the log, oldest first."""
+    with acting_as(owner):
+        folder, name = os.path.split(os.path.realpath(path))
+        try:
+            handle = os.open(folder, _FOLDER)
+        except OSError as error:
+            faults.append(f"{folder}: {error.strerror}")
+            return
+    try:
+        for found in rotated(os.listdir(handle), name):
+            try:
+                with acting_as(owner):
+                    opened = turn.opened(found, os.O_RDONLY, handle)
+            except OSError as error:
+                faults.append(f"{folder}/{found}: {error.strerror}")
+                continue
+            yield _File(f"{folder}/{found}", opened)
+    finally:
+        os.close(handle)
+
+
+def rotated(names: list[str], name: str) -> list[str]:
+    """Those of these names that are the log's, oldest first: with a date, with a number, and the log itself."""
+    found = [(it, match) for it in names if it.startswith(name) and (match := _ENDS.match(it, len(name)))]
+
+    def age(it: tuple[str, "re.Match[str]"]) -> tuple[int, int, str]:
+        number, date, _ = it[1].groups()
+        return (0, 0, date) if date else (1, -int(number), "") if number else (2, 0, "")
+
+    return [it for it, _ in sorted(found, key=age)]
+
+
+class _File:
+    """A file of the log, perhaps a compressed one, of which the end is read if it is long."""
+
+    def __init__(self, name: str, handle: int) -> None:
+        self.name, self._read = name, 0
+        self._plain = open(handle, "rb")
+        self._file: Any = self._plain
+        if name.endswith(".gz"):
+            import gzip  # (takes long to load)
+
+            self._file = gzip.GzipFile(fileobj=self._plain)
+        elif (size := os.fstat(handle).st_size) > _MOST:
+            self._plain.seek(size - _MOST)
+
+    def readline(self, most: int) -> bytes:
+        """A line, or so many bytes of it."""
+        if self._read > _MOST:
+            raise ValueError(f"has more than {_MOST >> 20} MiB, which aren't read")
+        line: bytes = self._file.readline(most)
+        self._read += len(line)
+        return line
+
+    def __enter__(self) -> "_File":
+        return self
+
+    def __exit__(self, *error: object) -> None:
+        with contextlib.suppress(OSError):
+            self._file.close()
+        self._plain.close()

@@ -1,0 +1,157 @@
+"""The place of the spool's folder, in which another folder takes its place in one step.
+
+What is made for that is in `NAME.restoring` beside it. Before the step this folder becomes `NAME.before.MOMENT`, which only
+who runs the command can enter. After the step the folder that was the spool's is in it, so no line that began in that
+folder finds its spool there."""
+import errno
+import fcntl
+import os
+import shutil
+import stat
+import time
+
+from . import clock, files, kernel
+from .copies import Target
+from .errors import LATER, Failure
+from .session import acting_as
+
+INNER = "spool"  # the folder that is made, and after the step the one that was there
+ASIDE = ".aside"  # ends the name of the spool in the folder that was there
+_FOLDER = os.O_RDONLY | os.O_DIRECTORY | os.O_NOFOLLOW | os.O_CLOEXEC
+_OTHERS_WRITE = 0o022
+_NEVER = (errno.EBUSY, errno.EXDEV, errno.EINVAL, errno.ENOSYS, errno.EOPNOTSUPP)  # what rename says of a mount point, or if it can't
+BY_HAND = "put the copy back by hand, as backup.md says"
+
+
+class Place:
+    """The folder of a spool, which belongs to this user, and the folder that it is in."""
+
+    def __init__(self, folder: str, owner: str) -> None:
+        self.path, self._owner = os.path.realpath(folder), owner
+        self.parent, self.name = os.path.split(self.path)
+        self._room: Target | None = None
+        self._parent = os.open(self.parent, _FOLDER)
+        try:
+            self.handle = os.open(self.name, _FOLDER, dir_fd=self._parent)
+            self._expect_own_parent()
+        except BaseException:
+            os.close(self._parent)
+            raise
+        self.seen = os.fstat(self.handle)
+
+    def _expect_own_parent(self) -> None:
+        seen, own = os.fstat(self._parent), os.geteuid()
+        if seen.st_uid not in (0, own) or seen.st_mode & _OTHERS_WRITE:
+            raise Failure(LATER, f"others may write {self.parent}, or it belongs to another user, so that nothing takes the place of {self.path}: {BY_HAND}")
+        if _mount_of(self.handle) != _mount_of(self._parent):
+            raise Failure(LATER, f"{self.path} is a mount point, so that no other folder takes its place: {BY_HAND}")
+
+    def __enter__(self) -> "Place":
+        return self
+
+    def __exit__(self, *error: object) -> None:
+        if self._room:
+            self._room.close()
+            if self._lives_at(f"{self.name}.restoring"):
+                self._remove(f"{self.name}.restoring")
+        os.close(self.handle)
+        os.close(self._parent)
+
+    # ---- who works there
+
+    def workers(self) -> list[str]:
+        """The processes that work in the folder, or have a file in it open, as far as this user may know."""
+        found = ((int(it), _uses(f"/proc/{it}", self.path)) for it in os.listdir("/proc") if it.isdigit() and int(it) != os.getpid())
+        return [f"process {number} ({_name_of(number)}) has {path}" for number, path in sorted(found) if path]
+
+    def expect_nobody(self) -> None:
+        """Failure if a process works in the folder. It would go on in the folder that was there."""
+        if workers := self.workers():
+            more = f", and {len(workers) - 1} more" if len(workers) > 1 else ""
+            raise Failure(LATER, f"{workers[0]}{more}: stop uuspool-night, mailers and calls, and leave the folder")
+
+    # ---- what takes the place
+
+    def begin(self) -> Target:
+        """A new folder beside, for what is made. What a killed run left is removed."""
+        name = f"{self.name}.restoring"
+        if os.path.lexists(f"{self.parent}/{name}"):
+            with files.opened(name, _FOLDER, folder=self._parent) as handle:
+                _lock(handle, f"{self.parent}/{name}")
+                self._remove(name)
+        try:
+            self._room = Target(name, self._parent)
+        except PermissionError:
+            raise Failure(LATER, f"{self.parent} can't be written, so that nothing takes the place of {self.path}: let root run this") from None
+        _lock(self._room.handle, f"{self.parent}/{name}")
+        if os.geteuid() == 0:
+            os.fchmod(self._room.handle, 0o711)  # (The owner of the spool works in it.)
+        return self._room
+
+    @property
+    def room(self) -> str:
+        """The path of that folder."""
+        return f"{self.parent}/{self.name}.restoring"
+
+    def exchange(self, made: Target, spool: str) -> str:
+        """The made folder takes the place, and the spool in the one that was there gets another name. Where that one is."""
+        assert self._room
+        name = self._free_name()
+        os.fchmod(self._room.handle, 0o700)
+        os.rename(f"{self.name}.restoring", name, src_dir_fd=self._parent, dst_dir_fd=self._parent)
+        os.fsync(self._room.handle)
+        try:
+            kernel.exchange(self._parent, self.name, self._room.handle, INNER)
+        except OSError as error:
+            os.rename(name, f"{self.name}.restoring", src_dir_fd=self._parent, dst_dir_fd=self._parent)
+            if error.errno in _NEVER:
+                raise Failure(LATER, f"no other folder can take the place of {self.path} ({error.strerror}): {BY_HAND}") from None
+            raise
+        with acting_as(self._owner):
+            if files.look(spool, self.handle, follows=False):
+                os.rename(spool, f"{spool}{ASIDE}", src_dir_fd=self.handle, dst_dir_fd=self.handle)
+        for handle in self.handle, made.handle, self._room.handle, self._parent:
+            os.fsync(handle)
+        return f"{self.parent}/{name}/{INNER}"
+
+    def _free_name(self) -> str:
+        """Under which the folder that was there is kept."""
+        head = f"{self.name}.before.{time.strftime('%Y%m%dT%H%M%SZ', time.gmtime(clock.now()))}"
+        names = (f"{head}.{it}" if it > 1 else head for it in range(1, 1000))
+        return next(it for it in names if not os.path.lexists(f"{self.parent}/{it}"))
+
+    def _lives_at(self, name: str) -> bool:
+        seen = files.look(name, self._parent, follows=False)
+        return seen is not None and stat.S_ISDIR(seen.st_mode)
+
+    def _remove(self, name: str) -> None:
+        shutil.rmtree(name, ignore_errors=True, dir_fd=self._parent)
+
+
+def _mount_of(handle: int) -> bytes:
+    """The number of the mount that an open folder is on."""
+    lines = (files.read_bytes(f"/proc/self/fdinfo/{handle}", 4096) or b"").splitlines()
+    return next((it for it in lines if it.startswith(b"mnt_id:")), b"")
+
+
+def _lock(handle: int, path: str) -> None:
+    try:
+        fcntl.flock(handle, fcntl.LOCK_EX | fcntl.LOCK_NB)
+    except BlockingIOError:
+        raise Failure(LATER, f"another uuspool-restore works in {path}") from None
+
+
+def _uses(process: str, folder: str) -> str:
+    """Which file of a folder a process has open, or the folder if it works there, or nothing."""
+    for link in f"{process}/cwd", *(f"{process}/fd/{it}" for it in files.names_in(f"{process}/fd")):
+        try:
+            path = os.readlink(link)
+        except OSError:
+            continue
+        if path == folder or path.startswith(f"{folder}/"):
+            return path
+    return ""
+
+
+def _name_of(process: int) -> str:
+    return (files.read_bytes(f"/proc/{process}/comm", 64) or b"-").decode(errors="replace").strip()

@@ -1,0 +1,299 @@
+"""uuspool-restore: puts the spool of a copy that uuspool-backup made in the place of the site's, and says what it did.
+
+It is made whole in a new folder beside, and the program reads each row of it. In the turn of the spool that is there, it gets
+a next number above all that were given, loses the jobs that are gone since the copy was made, as the log says, and gets
+what is beside the spool that is there. Then both folders are exchanged in one step. So whenever the command is stopped, the
+site has one of the two spools, whole.
+
+root or the spool's user runs it. For root the owner of the spool's folder opens what is in it, and runs the program there."""
+import contextlib
+import os
+import stat
+from collections.abc import Callable, Collection, Sequence
+
+from . import files, logged, options, restored, turn
+from .copies import Copier, Target
+from .errors import LATER, NOT_SET_UP, USAGE, Failure
+from .jobs import Job
+from .journal import Journal
+from .place import ASIDE, INNER, Place
+from .processes import Ended, Program
+from .session import Session, acting_as, user_name
+from .settings import Settings
+from .site import find_from_anywhere, owner_of
+from .source import BESIDE, Source, is_kept
+from .spool import answers_in
+from .texts import is_number, one_line
+from .values import NamedTuple
+
+_USAGE = "usage: uuspool-restore [-n NUMBER] COPY"
+_LAST = 4294967294  # number of a job
+_DISTANCE = 1_000_000  # from the greatest number that is known, if the spool that is there can't be read
+_LITTLE = 1_000  # from that, otherwise, because a crash may have taken the ends of the spool and of the log
+_SETTINGS = "restoring.toml"  # with which the program works on what is made
+_PRESENT, _ITS_COPY = "present", "copy"  # folders in which the program reads copies of both spools
+_MOST = 1 << 28  # bytes that the program may print
+_MOST_OF_A_WORD = 1 << 12
+_ENDS = ("", "-wal", "-word", "-lock", "-reserve", "-journal", "-new", "-new-wal", ASIDE)  # of the names of the spool's files
+_NEW = os.O_WRONLY | os.O_CREAT | os.O_EXCL | os.O_NOFOLLOW | os.O_CLOEXEC
+
+
+class Known(NamedTuple):
+    """What is known of a spool: the next number, or 0 if it can't be read, and its jobs."""
+
+    next: int
+    jobs: list[Job]
+
+
+def run(session: Session, words: Sequence[str]) -> int:
+    """The command."""
+    given, names = options.read(words, "n:", _USAGE)
+    least = given.get("n")
+    if len(names) != 1 or not (least is None or is_number(least) and 0 < int(least) <= _LAST):
+        raise Failure(USAGE, _USAGE)
+    path = os.path.abspath(names[0])
+    found = find_from_anywhere(session)
+    owner = _owner_of(found)
+    session.processes.catch_stops()
+    with Place(found.folder, owner) as place, Source(path, found, place.seen.st_uid) as source:
+        restoration = Restoration(session, found, owner, place, source)
+        restoration.make(int(least or 0))
+    for fault in restoration.faults:
+        session.say(fault)
+    return 1 if restoration.faults else 0
+
+
+def _owner_of(found: Settings) -> str:
+    """The user of the site, who is this one, unless root runs this."""
+    try:
+        owner, number = owner_of(found), os.stat(found.folder).st_uid
+    except FileNotFoundError:
+        raise Failure(NOT_SET_UP, f"{found.folder}, the folder of the spool, is not there: make it, as backup.md says, and try again") from None
+    if os.geteuid() == 0 and owner.isdecimal():
+        raise Failure(NOT_SET_UP, f"{found.folder} belongs to user {owner}, who has no account")
+    if os.geteuid() not in (0, number):
+        raise Failure(LATER, f"{found.folder} belongs to {owner}: let root run this")
+    return owner
+
+
+class Restoration:
+    """Puts a copy back."""
+
+    def __init__(self, session: Session, found: Settings, owner: str, place: Place, source: Source) -> None:
+        self._session, self._settings, self._owner, self._place, self._source = session, found, owner, place, source
+        self._pause = session.processes.pause
+        self.faults: list[str] = []  # what couldn't be read or brought over, and why
+        self._is_same = False  # whether the spool that is there has the word of the copy's
+        self._why = ""  # the program failed
+
+    def make(self, least: int) -> None:
+        """Puts it back, with a next number of so much at least, and prints what was done."""
+        self._place.expect_nobody()
+        room = self._place.begin()
+        made = self._begun(room, INNER)
+        self._source.put_spool(made)
+        copy = self._known(room, _ITS_COPY, self._source.put_spool)
+        if not copy.next:
+            raise Failure(LATER, f"the spool in {self._source.path} can't be read: {self._why}: take an earlier copy")
+        with turn.Turn(self._settings.spool, self._session.setting("UUSPOOL_PATIENCE", 60), self._owner) as its_turn, contextlib.ExitStack() as stack:
+            its_turn.wait_for_it(self._pause)
+            present = self._present(room, its_turn, stack)
+            said = logged.read(self._settings.log, self._owner, self._source.moment())
+            self.faults += (f"{it}, so jobs of which it says that they are done may wait again" for it in said.faults)
+            number = _number(least, copy.next, present.next, said.greatest)
+            gone = [job for job in copy.jobs if job.number in said.gone]
+            self._change(made, number, gone)
+            self._fill(made, number, {job.number for job in copy.jobs} - said.gone.keys())
+            self._session.processes.check()
+            with self._session.processes.finishing():
+                self._place.expect_nobody()
+                path = self._exchange(made)
+        self._tell(gone, said, number, path)
+        known = {job.number for job in copy.jobs} | said.gone.keys()
+        for job in present.jobs:
+            if job.number not in known:
+                self._session.print(f"not in the copy: job {_shown(job)}")
+
+    def _begun(self, room: Target, name: str) -> Target:
+        """A new folder for a spool, with settings for it."""
+        import json  # (takes long to load)
+
+        target = room.folder(name, self._place.seen)
+        limit = f"limit = {self._settings.limit}\n" if self._settings.limit else ""
+        self._put(target, _SETTINGS, f"name = {json.dumps(self._settings.name)}\nspool = {json.dumps(self._source.name, ensure_ascii=False)}\n{limit}")
+        return target
+
+    def _put(self, target: Target, name: str, text: str) -> None:
+        """A new file of the spool's user."""
+        with files.closing(os.open(name, _NEW, 0o600, dir_fd=target.handle)) as handle:
+            files.write_all(handle, text.encode())
+            if os.geteuid() == 0:
+                os.fchown(handle, self._place.seen.st_uid, self._place.seen.st_gid)
+
+    # ---- what is known
+
+    def _present(self, room: Target, its_turn: turn.Turn, stack: contextlib.ExitStack) -> Known:
+        """What is known of the spool that is there, if it is the copy's: a later or an earlier state of it. Nobody else has it open
+        from now on."""
+        self._is_same = self._present_word() == self._source.word
+        try:
+            database = stack.enter_context(its_turn.database(self._settings.spool, self._pause))
+        except OSError:
+            return Known(0, [])
+
+        def put(target: Target) -> None:
+            target.put(self._source.name, database)
+            with contextlib.suppress(FileNotFoundError), files.closing(self._opened(f"{self._source.name}-wal")) as handle:
+                target.put(f"{self._source.name}-wal", handle)
+
+        try:
+            return self._known(room, _PRESENT, put) if self._is_same else Known(0, [])
+        except OSError:
+            return Known(0, [])
+
+    def _present_word(self) -> str:
+        with contextlib.suppress(OSError), files.closing(self._opened(f"{self._source.name}-word")) as handle:
+            return os.pread(handle, _MOST_OF_A_WORD, 0).decode(errors="replace").strip()
+        return ""
+
+    def _opened(self, name: str) -> int:
+        """A file in the folder that is there."""
+        with acting_as(self._owner):
+            return turn.opened(name, os.O_RDONLY, self._place.handle)
+
+    def _known(self, room: Target, name: str, put: Callable[[Target], None]) -> Known:
+        """What is known of a spool, of which a copy is made for that. A system for which nothing waits has the next number in its
+        bundle."""
+        target = self._begun(room, name)
+        put(target)
+        target.sync()
+        system = f"number-{os.getpid()}"
+        requests = (b"list", b""), (b"load", f"system {system}\n".encode()), (f"pack --no-jobs --spool=x {system}".encode(), b"")
+        answers = self._batch(name, requests)
+        room.remove(name)
+        if [it.status for it in answers] != [0, 0, 0]:
+            return Known(0, [])
+        return Known(int(answers[2].output.split(b" ", 5)[4]), [Job.read(line) for line in answers[0].output.decode().splitlines()])
+
+    # ---- what is made
+
+    def _change(self, made: Target, number: int, gone: Sequence[Job]) -> None:
+        """The made spool gives numbers from this one on, and loses these jobs."""
+        made.sync()
+        ended = self._run(INNER, ["renumber", str(number)])
+        if ended.status:
+            raise Failure(LATER, f"the next number of the copy can't be made {number}: {one_line(ended.errors + ended.output)}")
+        answers = self._batch(INNER, [(f"--as={job.user} kill {job.number}".encode(), b"") for job in gone])
+        if [it.status for it in answers] != [0] * len(gone):
+            raise Failure(LATER, f"jobs that are done can't be removed from the copy: {self._why or one_line(answers[-1].output)}")
+        for name in _SETTINGS, "log", f"{self._source.name}-lock", f"{self._source.name}-reserve":
+            with contextlib.suppress(FileNotFoundError):
+                os.unlink(name, dir_fd=made.handle)
+
+    def _batch(self, name: str, requests: Sequence[tuple[bytes, bytes]]) -> list[Ended]:
+        """The answers to requests, of which a spool that fails gives less."""
+        if not requests:
+            return []
+        ended = self._run(name, ["batch"], b"".join(b"%d %s\n%s" % (len(given), words, given) for words, given in requests))
+        answers = list(answers_in(ended.output))
+        self._why = one_line(ended.errors or b"".join(it.errors for it in answers))
+        return answers
+
+    def _run(self, name: str, words: Sequence[str], given: bytes = b"") -> Ended:
+        """Runs the program as the spool's user on a spool that is made."""
+        line, environment = self._session.acting(self._owner, [self._session.program, "-c", _SETTINGS, *words])
+        environment = {key: value for key, value in environment.items() if key != "UUSPOOL_DIR"}
+        return self._session.processes.run(Program(line, f"{self._place.room}/{name}", environment, most=_MOST), given)
+
+    def _fill(self, made: Target, number: int, left: Collection[int]) -> None:
+        """Puts beside the made spool what is beside the one that is there, and what only the copy has. (If that is another spool,
+        what is noted of its jobs stays there.)"""
+        names = {it for it in os.listdir(self._place.handle) if self._is_carried(it)}
+        with Copier([self._place.seen.st_uid], self._owner) as copier:
+            for name in sorted(names):
+                self._carry(name, made, copier, left)
+            self._finish(copier)
+        with Copier([self._place.seen.st_uid]) as copier:
+            for name in BESIDE:
+                if name not in names:
+                    self._source.take(name, made, copier)
+            self._finish(copier)
+        self._put(made, restored.NAME, f"{number}\n")
+        made.sync()
+
+    def _finish(self, copier: Copier) -> None:
+        copier.finish()
+        self.faults += (f"{it}, so it is not brought over" for it in copier.left_out)
+
+    def _is_carried(self, name: str) -> bool:
+        is_spools = name.removeprefix(self._source.name) in _ENDS or name == restored.NAME
+        return is_kept(name) and not is_spools and (self._is_same or name not in BESIDE)
+
+    def _carry(self, name: str, made: Target, copier: Copier, left: Collection[int]) -> None:
+        path, seen = f"{self._place.path}/{name}", files.look(name, self._place.handle, follows=False)
+        if seen is None:
+            return
+        if stat.S_ISDIR(seen.st_mode):
+            copier.take(path, made.folder(name), _wanted(name, left))
+        elif stat.S_ISLNK(seen.st_mode):
+            os.symlink(os.readlink(name, dir_fd=self._place.handle), name, dir_fd=made.handle)
+
+    def _files(self) -> list[str]:
+        """The files beside the spool that are no folders and no links, such as the settings or the log, and the lock."""
+        seen = {it: files.look(it, self._place.handle, follows=False) for it in os.listdir(self._place.handle)}
+        names = [name for name, its in seen.items() if its and stat.S_ISREG(its.st_mode) and self._is_carried(name)]
+        return [f"{self._source.name}-lock", *sorted(names)]
+
+    def _exchange(self, made: Target) -> str:
+        """Where the folder that was there is then. These files stay the same. So a line that waits with the lock, and has the path of
+        the new spool, keeps its turn, and no line of the log is lost. (No link is followed, and a name in the folder of the
+        spool's user becomes another one there.)"""
+        moved = self._files()
+        for name in moved:
+            os.link(name, name, src_dir_fd=self._place.handle, dst_dir_fd=made.handle, follow_symlinks=False)
+        path = self._place.exchange(made, self._source.name)
+        for name in moved:
+            os.unlink(name, dir_fd=self._place.handle)
+        return path
+
+    # ---- what is told
+
+    def _tell(self, gone: Sequence[Job], said: logged.Said, number: int, path: str) -> None:
+        """Says it on standard output and in the log."""
+        with acting_as(self._owner):
+            log = Journal(self._settings.log, self._settings.zone, self._session.say)
+            log.note("", user_name(os.geteuid()), "", "restored", f"from {self._source.path}: the next job gets {number} or a later number")
+            for job in gone:
+                log.note(job.system, job.user, job.number, "done-before", f"{said.gone[job.number].how}: {job.what}")
+        for job in gone:
+            line = said.gone[job.number]
+            self._session.print(f"done before ({line.how}, {line.moment}): job {_shown(job)}")
+        self._session.print(f"the next job gets {number} or a later number")
+        self._session.print(f"the spool that was there is in {path}")
+
+
+def _shown(job: Job) -> str:
+    return f"{job.number} for {job.system} of {job.user}: {job.what}"
+
+
+def _wanted(folder: str, left: Collection[int]) -> Callable[[str], bool]:
+    """Which files in a folder are brought over. Taylor UUCP goes on with a job that the copy doesn't have, and a note of it
+    would take it back."""
+
+    def is_wanted(name: str) -> bool:
+        number = name.removesuffix(".json")
+        return is_kept(name) and (folder != "taylor" or not number.isdecimal() or int(number) in left)
+
+    return is_wanted
+
+
+def _number(least: int, copys: int, presents: int, greatest: int) -> int:
+    """The next number: above that of the spool that is there, of the copy, and each in the log. If the first can't be read, many more
+    may have been given."""
+    known = max(copys, presents, greatest + 1)
+    if 0 < least < known:
+        raise Failure(USAGE, f"-n {least} is too small, because numbers up to {known - 1} may have been given: say {known} or more")
+    number = least or known + (_LITTLE if presents else _DISTANCE)
+    if number > _LAST:
+        raise Failure(LATER, f"no number above {known} is certainly new: say one by -n")
+    return number

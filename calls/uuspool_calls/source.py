@@ -1,0 +1,122 @@
+"""A copy that uuspool-backup made, of which the spool is put back."""
+import contextlib
+import os
+import re
+import stat
+
+from . import clock, files, turn
+from .copies import Copier, Target
+from .errors import LATER, USAGE, Failure
+from .settings import Settings
+
+BESIDE = ("calls", "deliver", "refused", "moves", "pieces")  # the folders of a copy that are kept beside the spool
+_LOCKS = re.compile(r".*(\.lock|\.works|\.port|\.waits|\.answer\.[0-9]+)\Z|\..*\.new\Z", re.S)
+_FOLDER = os.O_RDONLY | os.O_DIRECTORY | os.O_CLOEXEC
+_OTHERS_WRITE = 0o022
+_MOST_OF_SETTINGS = 1 << 20
+_MOST_OF_A_WORD = 1 << 12
+_STAMP = re.compile(r"\.([0-9]{4})([0-9]{2})([0-9]{2})T([0-9]{2})([0-9]{2})([0-9]{2})Z(?:\.[0-9]+)?\Z")
+
+
+def is_kept(name: str) -> bool:
+    """Whether a file beside the spool says something. Locks don't, nor do files that are being written."""
+    return _LOCKS.match(name) is None
+
+
+class Source:
+    """A copy. Nobody else may write it, and what is in its folder spool/ belongs to this user, by number."""
+
+    def __init__(self, path: str, found: Settings, owner: int) -> None:
+        self.path, self._settings, self._owner = os.path.abspath(path), found, owner
+        self.name = os.path.basename(found.spool)
+        self._handle = _opened(self.path)
+        try:
+            self._spool = os.open("spool", _FOLDER | os.O_NOFOLLOW, dir_fd=self._handle)
+        except OSError:
+            os.close(self._handle)
+            raise Failure(USAGE, f"{self.path} has no folder spool: name a folder that uuspool-backup made") from None
+        try:
+            self._expect_own_site()
+            self.word = self._text(f"{self.name}-word")
+            if not self.word:
+                raise Failure(LATER, f"{self.path}/spool has no file {self.name}-word, so neighbours would take its jobs for others: see man uuspool-trouble")
+        except BaseException:
+            self.__exit__()
+            raise
+
+    def __enter__(self) -> "Source":
+        return self
+
+    def __exit__(self, *error: object) -> None:
+        os.close(self._spool)
+        os.close(self._handle)
+
+    def _expect_own_site(self) -> None:
+        import tomllib  # (takes long to load)
+
+        seen = files.look(self.name, self._spool, follows=False)
+        if seen is None:
+            raise Failure(LATER, f"{self.path}/spool has no file {self.name}, which {self._settings.path} names: name a copy of this site")
+        if self.path.endswith(".new"):
+            raise Failure(LATER, f"{self.path} is the part of a copy that a killed uuspool-backup left: name another copy")
+        text = (files.read_bytes(f"{self.path}/settings.toml", _MOST_OF_SETTINGS) or b"").decode(errors="replace")
+        with contextlib.suppress(ValueError, RecursionError):
+            name = tomllib.loads(text).get("name")
+            if name not in (None, self._settings.name):
+                raise Failure(LATER, f"{self.path} is a copy of another site, {name}: name a copy of {self._settings.name}")
+
+    def moment(self) -> str:
+        """When it was made, as the site's clock shows that: by its name, or when its spool was written last."""
+        match = _STAMP.search(self.path)
+        if match:
+            year, month, day, hour, minute, second = match.groups()
+            seconds = clock.seconds("UTC0", f"{year}-{month}-{day} {hour}:{minute}:{second}")
+        else:
+            seen = [files.look(f"{self.name}{end}", self._spool, follows=False) for end in ("", "-wal")]
+            seconds = int(max(it.st_mtime for it in seen if it))
+        return clock.shown(self._settings.zone, seconds)
+
+    def put_spool(self, target: Target) -> None:
+        """Copies the spool's files."""
+        for end in "", "-wal", "-word":
+            handle = self._opened_own(f"{self.name}{end}")
+            if handle is not None:
+                with files.closing(handle):
+                    target.put(f"{self.name}{end}", handle)
+
+    def take(self, folder: str, target: Target, copier: Copier) -> None:
+        """Takes a folder that the copy has beside the spool."""
+        if files.look(folder, self._spool, follows=False):
+            copier.take(f"{self.path}/spool/{folder}", target.folder(folder))
+
+    def _opened_own(self, name: str) -> int | None:
+        """A file of the spool's user. (Another one's would be a file that the site can't open.)"""
+        try:
+            handle = turn.opened(name, os.O_RDONLY, self._spool)
+        except FileNotFoundError:
+            return None
+        except OSError as error:
+            raise Failure(LATER, f"{self.path}/spool/{name}: {error.strerror}") from None
+        if (owner := os.fstat(handle).st_uid) != self._owner:
+            os.close(handle)
+            raise Failure(LATER, f"{self.path}/spool/{name} belongs to user {owner}, not {self._owner}: correct it by chown")
+        return handle
+
+    def _text(self, name: str) -> str:
+        handle = self._opened_own(name)
+        if handle is None:
+            return ""
+        with files.closing(handle):
+            return os.pread(handle, _MOST_OF_A_WORD, 0).decode(errors="replace").strip()
+
+
+def _opened(path: str) -> int:
+    try:
+        handle = os.open(path, _FOLDER)
+    except OSError as error:
+        raise Failure(USAGE, f"{path}: {error.strerror}: name a folder that uuspool-backup made") from None
+    seen = os.fstat(handle)
+    if seen.st_uid not in (0, os.geteuid()) or stat.S_IMODE(seen.st_mode) & _OTHERS_WRITE:
+        os.close(handle)
+        raise Failure(LATER, f"others may write {path}, or it belongs to another user: chmod go-w {path}, or chown it")
+    return handle
