@@ -201,9 +201,10 @@ class Restoration:
 
     def _run(self, name: str, words: Sequence[str], given: bytes = b"") -> Ended:
         """Runs the program as the spool's user on a spool that is made."""
-        line, environment = self._session.acting(self._owner, [self._session.program, "-c", _SETTINGS, *words])
-        environment = {key: value for key, value in environment.items() if key != "UUSPOOL_DIR"}
-        return self._session.processes.run(Program(line, f"{self._place.room}/{name}", environment, most=_MOST), given)
+        line = [self._session.program, "-c", _SETTINGS, *words]
+        program = self._session.acting(self._owner, Program(line, "", self._session.environment, most=_MOST))
+        environment = {key: value for key, value in program.environment.items() if key != "UUSPOOL_DIR"}
+        return self._session.processes.run(program._replace(folder=f"{self._place.room}/{name}", environment=environment), given)
 
     def _fill(self, made: Target, number: int, left: Collection[int]) -> None:
         """Puts beside the made spool what is beside the one that is there, and what only the copy has. (If that is another spool,
