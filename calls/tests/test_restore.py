@@ -238,11 +238,21 @@ class Numbers(Folder):
             with self.assertRaisesRegex(Failure, "usage: "):
                 restore.run(Quiet(self.folder), words)
 
-    def test_the_number_that_is_kept(self) -> None:
-        self.assertEqual(0, restored.number_in(self.folder))
-        for text, number in ("", 0), ("1000\n", 1000), ("x", 0), ("-1", 0), ("1" * 30, 0):
+    def test_the_numbers_that_were_given_up(self) -> None:
+        for text, times in ("", []), ("7 1000\n", [(7, 1000)]), ("7 1000\n9 2000\n", [(7, 1000), (9, 2000)]), ("x", []), ("7\n", []), ("7 -1\n", []), ("7 1000\n" * 10_000, []):
+            self.assertEqual(times, restored.given_up_in(text))
+        self.assertEqual("7 1000\n9 2000\n", restored.text_of([(7, 1000), (9, 2000), (7, 1000)]))
+
+    def test_which_jobs_were_done(self) -> None:
+        self.assertFalse(restored.was_done(self.folder, 1))
+        # A copy with the next number 4700 was put back, then a newer one, and then one that was made after that.
+        for text, done in ("4700 5822\n", "1 4699"), ("4700 5822\n4800 6822\n", "1 4699"), ("4700 5822\n4800 6822\n6900 7900\n", "4699 6850"):
             self.put("restored", text)
-            self.assertEqual(number, restored.number_in(self.folder))
+            self.assertEqual([True, True], [restored.was_done(self.folder, int(it)) for it in done.split()])
+            self.assertEqual([False] * 3, [restored.was_done(self.folder, it) for it in (4700, 4750, 8000)])
+        for text in "x\n4700 5822\n", "4700 5822\n" * 10_000:
+            self.put("restored", text)
+            self.assertFalse(restored.was_done(self.folder, 1))
 
     def test_which_notes_of_taylor_are_brought_over(self) -> None:
         wanted, other = restore._wanted("taylor", {3}), restore._wanted("deliver", {3})
@@ -263,14 +273,14 @@ class Stale(Folder):
         return taken.faults
 
     def test_a_job_of_the_copy_was_done_before(self) -> None:
-        self.put("restored", "2000\n")
+        self.put("restored", "1000 2000\n")
         self.assertEqual([], self.take(7))
         self.assertEqual(((1, 0, True), ["duke ann 7 done-before exec rmail joe"], [2000]), (self.counts, self.site.log, sorted(self.spool.parcels)))
         self.assertEqual([], self.take(7))
         self.assertEqual((0, 0, False), self.counts)
 
     def test_other_jobs_are_queued_anew(self) -> None:
-        self.put("restored", "2000\n")
+        self.put("restored", "1000 2000\n")
         for number, reason in (2000, "Stale"), (7, "Differs"):
             self.take(number, reason)
             self.assertEqual((0, 1, True), self.counts)
@@ -280,7 +290,7 @@ class Stale(Folder):
         self.assertEqual((0, 1, True), self.counts)
 
     def test_a_job_that_cannot_be_removed(self) -> None:
-        self.put("restored", "2000\n")
+        self.put("restored", "1000 2000\n")
         self.spool.fails["kill"] = SpoolError(3, "uuspool: spool: store")
         self.assertEqual(["job 7 was done before the spool was put back, and cannot be removed: uuspool: spool: store"], self.take(7))
 

@@ -195,7 +195,7 @@ class Neighbour:
         was put back by hand or got another word, the job may have come before, and then comes twice."""
         passed = False
         for refused in taken.settled.refused:
-            if refused.reason == "Stale" and self._is_of_a_copy(refused.number):
+            if refused.reason == "Stale" and self._was_done(refused.number):
                 self._remove_done(taken, refused.number)
             elif refused.reason in ("Differs", "Stale"):
                 times = 1
@@ -209,11 +209,11 @@ class Neighbour:
             else:
                 taken.faults.append(f"the spool of {self._name} refuses job {refused.number}: {refused.reason}")
 
-    def _is_of_a_copy(self, number: int) -> bool:
-        """Whether a job was in a copy that was put back. (Those that were queued since have greater numbers.)"""
+    def _was_done(self, number: int) -> bool:
+        """Whether a job that the neighbour calls `Stale` was done before the spool was put back."""
         from . import restored
 
-        return number < restored.number_in(self._site.folder)
+        return restored.was_done(self._site.folder, number)
 
     def _remove_done(self, taken: Taken, number: int) -> None:
         """Removes a job of a copy that was put back. The neighbour was told that no job of its number comes any more, so it had

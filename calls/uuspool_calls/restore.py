@@ -21,7 +21,7 @@ from .processes import Ended, Program
 from .session import Session, acting_as, user_name
 from .settings import Settings
 from .site import find_from_anywhere, owner_of
-from .source import BESIDE, Source, is_kept
+from .source import BESIDE, MOST_OF_A_TEXT, Source, is_kept
 from .spool import answers_in
 from .texts import is_number, one_line
 from .values import NamedTuple
@@ -33,7 +33,6 @@ _LITTLE = 1_000  # from that, otherwise, because a crash may have taken the ends
 _SETTINGS = "restoring.toml"  # with which the program works on what is made
 _PRESENT, _ITS_COPY = "present", "copy"  # folders in which the program reads copies of both spools
 _MOST = 1 << 28  # bytes that the program may print
-_MOST_OF_A_WORD = 1 << 12
 _ENDS = ("", "-wal", "-word", "-lock", "-reserve", "-journal", "-new", "-new-wal", ASIDE)  # of the names of the spool's files
 _NEW = os.O_WRONLY | os.O_CREAT | os.O_EXCL | os.O_NOFOLLOW | os.O_CLOEXEC
 
@@ -103,7 +102,9 @@ class Restoration:
             number = _number(least, copy.next, present.next, said.greatest)
             gone = [job for job in copy.jobs if job.number in said.gone]
             self._change(made, number, gone)
-            self._fill(made, number, {job.number for job in copy.jobs} - said.gone.keys())
+            self._fill(made, {job.number for job in copy.jobs} - said.gone.keys())
+            self._put(made, restored.NAME, restored.text_of([*self._given_up(), (copy.next, number)]))
+            made.sync()
             self._session.processes.check()
             with self._session.processes.finishing():
                 self._place.expect_nobody()
@@ -135,7 +136,7 @@ class Restoration:
     def _present(self, room: Target, its_turn: turn.Turn, stack: contextlib.ExitStack) -> Known:
         """What is known of the spool that is there, if it is the copy's: a later or an earlier state of it. Nobody else has it open
         from now on."""
-        self._is_same = self._present_word() == self._source.word
+        self._is_same = self._present_text(f"{self._source.name}-word").strip() == self._source.word
         try:
             database = stack.enter_context(its_turn.database(self._settings.spool, self._pause))
         except OSError:
@@ -151,9 +152,15 @@ class Restoration:
         except OSError:
             return Known(0, [])
 
-    def _present_word(self) -> str:
-        with contextlib.suppress(OSError), files.closing(self._opened(f"{self._source.name}-word")) as handle:
-            return os.pread(handle, _MOST_OF_A_WORD, 0).decode(errors="replace").strip()
+    def _given_up(self) -> list[restored.GivenUp]:
+        """The numbers that were given up before: in the past of the copy, and in that of the spool that is there, if it is the copy's."""
+        texts = [self._source.text(restored.NAME), self._present_text(restored.NAME) if self._is_same else ""]
+        return [it for text in texts for it in restored.given_up_in(text)]
+
+    def _present_text(self, name: str) -> str:
+        """What a file in the folder that is there says, or nothing if it can't be read."""
+        with contextlib.suppress(OSError), files.closing(self._opened(name)) as handle:
+            return os.pread(handle, MOST_OF_A_TEXT, 0).decode(errors="replace")
         return ""
 
     def _opened(self, name: str) -> int:
@@ -206,7 +213,7 @@ class Restoration:
         environment = {key: value for key, value in program.environment.items() if key != "UUSPOOL_DIR"}
         return self._session.processes.run(program._replace(folder=f"{self._place.room}/{name}", environment=environment), given)
 
-    def _fill(self, made: Target, number: int, left: Collection[int]) -> None:
+    def _fill(self, made: Target, left: Collection[int]) -> None:
         """Puts beside the made spool what is beside the one that is there, and what only the copy has. (If that is another spool,
         what is noted of its jobs stays there.)"""
         names = {it for it in os.listdir(self._place.handle) if self._is_carried(it)}
@@ -219,8 +226,6 @@ class Restoration:
                 if name not in names:
                     self._source.take(name, made, copier)
             self._finish(copier)
-        self._put(made, restored.NAME, f"{number}\n")
-        made.sync()
 
     def _finish(self, copier: Copier) -> None:
         copier.finish()

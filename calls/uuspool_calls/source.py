@@ -14,7 +14,7 @@ _LOCKS = re.compile(r".*(\.lock|\.works|\.port|\.waits|\.answer\.[0-9]+)\Z|\..*\
 _FOLDER = os.O_RDONLY | os.O_DIRECTORY | os.O_CLOEXEC
 _OTHERS_WRITE = 0o022
 _MOST_OF_SETTINGS = 1 << 20
-_MOST_OF_A_WORD = 1 << 12
+MOST_OF_A_TEXT = 1 << 17  # bytes of a small file beside the spool
 _STAMP = re.compile(r"\.([0-9]{4})([0-9]{2})([0-9]{2})T([0-9]{2})([0-9]{2})([0-9]{2})Z(?:\.[0-9]+)?\Z")
 
 
@@ -37,7 +37,7 @@ class Source:
             raise Failure(USAGE, f"{self.path} has no folder spool: name a folder that uuspool-backup made") from None
         try:
             self._expect_own_site()
-            self.word = self._text(f"{self.name}-word")
+            self.word = self.text(f"{self.name}-word").strip()
             if not self.word:
                 raise Failure(LATER, f"{self.path}/spool has no file {self.name}-word, so neighbours would take its jobs for others: see man uuspool-trouble")
         except BaseException:
@@ -102,12 +102,13 @@ class Source:
             raise Failure(LATER, f"{self.path}/spool/{name} belongs to user {owner}, not {self._owner}: correct it by chown")
         return handle
 
-    def _text(self, name: str) -> str:
+    def text(self, name: str) -> str:
+        """What a small file beside the spool of the copy says, or nothing if it isn't there."""
         handle = self._opened_own(name)
         if handle is None:
             return ""
         with files.closing(handle):
-            return os.pread(handle, _MOST_OF_A_WORD, 0).decode(errors="replace").strip()
+            return os.pread(handle, MOST_OF_A_TEXT, 0).decode(errors="replace")
 
 
 def _opened(path: str) -> int:
