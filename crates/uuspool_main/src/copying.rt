@@ -124,8 +124,8 @@ fn copy_spool<D: Disk + Drop, N: Start>(
 
 // What a copy of these contents gets for the purpose, or `None` if that needs no copy.
 fn needed_for(purpose: Purpose, contents: Contents) -> Option<Contents>
-    ensures needed { IfSome result (Meets purpose contents.now) }
-    ensures needless { result ≡ None → IsNeedless purpose contents.now }
+    ensures needed { IfSome result (Meets purpose contents) }
+    ensures needless { result ≡ None → IsNeedless purpose contents }
 {
     renumbered_spools_give_new_numbers();
     match purpose {
