@@ -48,14 +48,14 @@ module _ {D N : Type 0} {g : device.Ghosts D} (h : device.Ghosts N) (before blan
         ∥∥₁_map (has nothing clean_new s are db may_db) (λ kept. short_counts log db s (short clean log may_log) kept)
 
     may_replace : (why : Purpose) → Meets why contents given → (old : Files D) (new : Files N) → IsClosedThen spool old → HasShortLog g old → HasContents h given blank new → MayReplace g h why before blank old new
-    may_replace (purpose.Shrink length) same old new (closed, close, read) short has nothing clean clean_new log db may_log may_db = (
+    may_replace (purpose.Shrink bytes) same old new (closed, close, read) short has nothing clean clean_new log db may_log may_db = (
       refl,
       refl,
       λ s keeps.
           keeps_with old new short has nothing clean clean_new log db may_log may_db s (subst (AreContentsOf s) (sym same) (shows (close.clean (read.clean clean)) s keeps).0),
     )
-    may_replace (purpose.Renumber number) met old new (closed, close, read) short has nothing clean clean_new log db may_log may_db s keeps =
-        keeps_with old new short has nothing clean clean_new log db may_log may_db _ (met s (shows (close.clean (read.clean clean)) s keeps).0)
+    may_replace (purpose.Renumber number) met old new (closed, close, read) short has nothing clean clean_new log db may_log may_db =
+        λ s keeps. keeps_with old new short has nothing clean clean_new log db may_log may_db _ (met s (shows (close.clean (read.clean clean)) s keeps).0)
 
     pub copied : (why : Purpose) → Meets why contents given → ((old : Files D) (new : Files N) → IsClosedThen spool old → HasContents h given blank new → WasCopied g h why before blank old new)
         → ((rest : Rest D g) → LetsGo spool rest → EndsStretch before (exchange_of 1 [] [] None) rest)

@@ -39,7 +39,7 @@ LeavesClosed g before old = AreClean g old.log old.db → (left : Image) → out
 -- What files that held the first may hold after the purpose was met: the same state, as above, or the
 -- one with the later next number.
 abbrev pub MayBecomeFor : Purpose → Image → Image → Type 0
-MayBecomeFor (purpose.Shrink length) before left = MayBecome before left
+MayBecomeFor (purpose.Shrink bytes) before left = MayBecome before left
 MayBecomeFor (purpose.Renumber number) before left = (s : State) → ImageKeeps before s → ∥ ImageKeeps left (renumbered number s) ∥₁
 
 -- The database of the new files may take the place of the old one, beside the log of the old files: if
@@ -53,13 +53,13 @@ MayReplace g h why before blank old new =
 -- these contents meet the purpose: those that were read, or those of the same state with the later next
 -- number
 abbrev pub Meets : Purpose → Contents → Contents → Type 0
-Meets (purpose.Shrink length) read given = given ≡ read
+Meets (purpose.Shrink bytes) read given = given ≡ read
 Meets (purpose.Renumber number) read given = (s : State) → AreContentsOf s read → AreContentsOf (renumbered number s) given
 
 -- Those that were read meet the purpose as they are. (That files are no longer than they have to be is
 -- a choice, of which no clause speaks.)
 abbrev pub IsNeedless : Purpose → Contents → Type 0
-IsNeedless (purpose.Shrink length) read = ⊤
+IsNeedless (purpose.Shrink bytes) read = ⊤
 IsNeedless (purpose.Renumber number) read = (s : State) → AreContentsOf s read → renumbered number s ≡ s
 
 -- ---- what was done with the two spools

@@ -15,7 +15,7 @@ returns-in-Some g c before started shows =
     copied _ before (image_at g.N.Start) c.in-Ok.contents c.in-Some.contents ended
     (λ clean s keeps. asked.answer clean s (shows (omega (arith, clean, asked.clean)) s keeps))
     c.short_logs_count_as_none.ensures
-    c.args.purpose c.in-Some.ensures
+    c.args.purpose c.in-Some.ensures.needed
     (λ old new closed has. record {
       opened = begun;
       asked = ended;
@@ -24,7 +24,7 @@ returns-in-Some g c before started shows =
       started = started;
       alone = sym c.is_alone-is_alone.ensures.exact ∙ c.if-is_alone.true;
       read = asked;
-      met = c.in-Some.ensures;
+      met = c.in-Some.ensures.needed;
       has = has;
       closed = closed;
     })
@@ -44,14 +44,16 @@ returns-in-None g c before started shows =
       (
         record { opened = begun; asked = ended; contents = c.in-Ok.contents; started = started; read = asked; gone = c.let_go.ensures },
         sym c.is_alone-is_alone.ensures.exact ∙ c.if-is_alone.true,
-        c.in-None.ensures,
+        c.in-None.ensures.needless refl,
       ),
-      None,
-      tt,
-      ends before (exchange_of 1 [] [] None) ended
-          (λ store last numbered. make.let_go 1 before [] begun ended [] None store started asked.ran last numbered)
-          (λ files close. make.closed 1 before [] begun ended [] None files started asked.ran close)
-          c.let_go.result c.let_go.ensures,
+      (
+        None,
+        tt,
+        ends before (exchange_of 1 [] [] None) ended
+            (λ store last numbered. make.let_go 1 before [] begun ended [] None store started asked.ran last numbered)
+            (λ files close. make.closed 1 before [] begun ended [] None files started asked.ran close)
+            c.let_go.result c.let_go.ensures,
+      ),
     )
 
 pub returns-in-Ok-2 : goal.returns-in-Ok-2
@@ -61,15 +63,17 @@ returns-in-Ok-2 g c before started shows =
     let asked = c.in-Ok-2.ensures.question in
     let make = c.calls_make_a_stretch.ensures in (
       (
-        record { opened = begun; asked = ended; contents = c.in-Ok-2.contents; started = started; read = asked; gone = c.let_go-in-Ok-2.ensures },
-        sym c.is_alone-is_alone.ensures.exact ∙ c.else-is_alone.false,
+        record { opened = begun; asked = ended; contents = c.in-Ok-2.field-0; started = started; read = asked; gone = c.let_go-in-Ok-2.ensures },
+        sym c.is_alone-is_alone.ensures.exact ∙ c.if-is_alone.false,
       ),
-      None,
-      tt,
-      ends before (exchange_of 1 [] [] None) ended
-          (λ store last numbered. make.let_go 1 before [] begun ended [] None store started asked.ran last numbered)
-          (λ files close. make.closed 1 before [] begun ended [] None files started asked.ran close)
-          c.let_go-in-Ok-2.result c.let_go-in-Ok-2.ensures,
+      (
+        None,
+        tt,
+        ends before (exchange_of 1 [] [] None) ended
+            (λ store last numbered. make.let_go 1 before [] begun ended [] None store started asked.ran last numbered)
+            (λ files close. make.closed 1 before [] begun ended [] None files started asked.ran close)
+            c.let_go-in-Ok-2.result c.let_go-in-Ok-2.ensures,
+      ),
     )
 
 pub returns-in-Err : goal.returns-in-Err
