@@ -106,6 +106,11 @@ def _shown(line: str) -> str:
     return "".join(it if it.isprintable() else "?" for it in line)
 
 
+def line_as(user: str, words: str) -> str:
+    """What root types to run words as a user. (By `runuser` they would have root's terminal, folder and keys.)"""
+    return f"{_LIBRARY}/as-owner {user} {words}"
+
+
 def user_name(number: int) -> str:
     """The name of a user, or its number if it has none."""
     try:
