@@ -308,7 +308,7 @@ class Forwarding(Folder):
 
 class Envelopes(Folder):
     def signed(self, data: bytes, user: str = "duke!ann", most: int = 1000) -> bytes:
-        with memory_file(data) as content, envelope.signed(self.mail(content, user), "mysite", self.folder) as given:
+        with memory_file(data) as content, envelope.signed(self.mail(content, user), self.folder) as given:
             return os.pread(given, most, 0)
 
     def mail(self, content: int, user: str = "duke!ann") -> Delivered:
@@ -357,23 +357,11 @@ class Envelopes(Folder):
                 self.signed(text)
         self.assertEqual(b"x" * 6, self.signed(line + b">From x\n" * 8188 + b"x" * 6, most=1 << 17)[-6:])
 
-    def test_mail_of_this_sites_users(self) -> None:
-        """Its first line names who queued it. A mailer names a sender, which is the user of the job."""
-        for user, text, given in (
-            ("ann", b"From ann x remote from mysite\nhello", b"From ann x remote from mysite\nhello"),
-            ("ann", b"From boss x remote from mysite\nhello", b"From ann Sun Nov  8 09:30:00 2026 remote from mysite\n>From boss x remote from mysite\nhello"),
-            ("ann", b"From ann x remote from duke\n", b"From ann Sun Nov  8 09:30:00 2026 remote from mysite\n>From ann x remote from duke\n"),
-            ("joe@x.y", b"From joe@x.y x remote from mysite\n", b"From x.y!joe x remote from mysite\n"),
-            ("", b"hello", b"From uucp Sun Nov  8 09:30:00 2026 remote from mysite\nhello"),
-        ):
-            with memory_file(text) as content, envelope.signed(self.mail(content, user)._replace(sender=""), "mysite", self.folder) as its:
-                self.assertEqual(given, os.pread(its, 1000, 0))
-
     def test_mail_that_is_handed_on(self) -> None:
         with memory_file(b"From a x remote from duke\n\n") as content, envelope.handed_on(self.mail(content, "duke!x<b@c>"), "mysite", self.folder) as given:
             self.assertEqual(b"From duke!c_!x_b Sun Nov  8 09:30:00 2026 remote from mysite\n>From a x remote from duke\n\n", os.pread(given, 1000, 0))
 
     def test_large_mail_has_no_name(self) -> None:
-        with memory_file(bytes(1_048_577)) as content, envelope.signed(self.mail(content), "mysite", self.folder) as given:
+        with memory_file(bytes(1_048_577)) as content, envelope.signed(self.mail(content), self.folder) as given:
             self.assertEqual([], os.listdir(self.folder))
             self.assertEqual(1_048_577, len(os.read(given, 2_000_000).partition(b"\n")[2]))

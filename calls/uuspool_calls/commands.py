@@ -1,7 +1,6 @@
 """The commands that neighbours may run here: /etc/uuspool/commands has a line for each, with its name, its
 program, `+options` if words may begin with a hyphen, `+no-words` if it may have no words, `user=NAME` if it runs
-as another user, `limit=MINUTES` if it may take long, and the systems that may use it. If none is named, all may. This
-site's own users may if its own name is among them."""
+as another user, `limit=MINUTES` if it may take long, and the neighbours that may use it. If none is named, all may."""
 from collections.abc import Sequence
 
 from .errors import Delay, Refusal
@@ -24,9 +23,9 @@ class Command(NamedTuple):
     minutes: str = ""  # for which it may work, or nothing for the usual time
 
     def expect_allowed(self, own: str, sender: str, words: Sequence[str], path: str) -> None:
-        """Whether this sender may run it with these words. This site's own users are of a system, too."""
-        if self.users and (sender or own) not in self.users:
-            raise Refusal(f"{own} does not let {sender or 'its own users'} run {self.name}: its line in {path} names others, and not {sender or own}")
+        """Whether this sender may run it with these words. Jobs of this site itself may."""
+        if self.users and sender and sender not in self.users:
+            raise Refusal(f"{own} does not let {sender} run {self.name}: {path} names other neighbours")
         if "+no-words" in self.flags and words:
             raise Refusal(f"{own} lets {self.name} have no words")
         if "+options" not in self.flags and (odd := next((it for it in words if it.startswith("-")), "")):

@@ -178,7 +178,7 @@ class Delivery:
         limit = command.seconds(self._limit, path)
         first = partial(works.note, job.working) if job.working else None
         program = Program(command.line(words), self._folder, environment, limit, _MOST_SHOWN, first=first, leaves_none=True)
-        with _given(job, self._own, self._folder) as content:
+        with _given(job, self._folder) as content:
             ended = self._session.processes.run(program, content, joined=True)
         if ended.status:
             line = printable((lines_of(ended.output) or [b""])[0])[:_MOST_SHOWN]
@@ -206,10 +206,10 @@ def _piece(job: Delivered) -> Piece:
 
 
 @contextlib.contextmanager
-def _given(job: Delivered, own: str, folder: str) -> Iterator[int]:
-    """The open file that a command gets: the job's bytes, and before mail its envelope."""
-    if job.words[0] == MAIL:
-        with envelope.signed(job, own, folder) as content:
+def _given(job: Delivered, folder: str) -> Iterator[int]:
+    """The open file that a command gets: the job's bytes, and before mail of a neighbour its envelope."""
+    if job.sender and job.words[0] == MAIL:
+        with envelope.signed(job, folder) as content:
             yield content
     else:
         yield job.content

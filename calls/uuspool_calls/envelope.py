@@ -1,5 +1,5 @@
-"""The envelope of mail that a neighbour brings, or that is queued here for this site: its first line says from which neighbour
-or user of this site the mail came, which is true whatever that one wrote. The lines before it become `>From`, as RFC 976 has it. The users in these lines are paths of
+"""The envelope of mail that a neighbour brings: its first line says from which neighbour the mail came, which is true
+whatever the neighbour wrote. The lines before it become `>From`, as RFC 976 has it. The users in these lines are paths of
 plain words, in which no mailer finds another address."""
 import contextlib
 import itertools
@@ -32,12 +32,12 @@ def _plain(text: str, kept: frozenset[str]) -> str:
 
 
 @contextlib.contextmanager
-def signed(job: Delivered, own: str, folder: str) -> Iterator[int]:
-    """The open file of mail with such a first line, or the file itself if it has it. It is the same if the mail is delivered again. Mail that is larger than a job is on the disk of a folder, and has no name there."""
+def signed(job: Delivered, folder: str) -> Iterator[int]:
+    """The open file of mail from a neighbour's user with such a first line, or the file itself if it has it. It is the same
+    if the mail is delivered again. Mail that is larger than a job is on the disk of a folder, and has no name there."""
     lines, length = _lines_of(job.content)
-    site, user = job.sender or own, plain_user(job.user.removeprefix(f"{job.sender}!")) or "uucp"
-    if not lines or not _is_signed(lines[0], site) or not (job.sender or lines[0].startswith(f"From {user} ")):
-        lines.insert(0, _line(job, user, site))
+    if not lines or not _is_signed(lines[0], job.sender):
+        lines.insert(0, _line(job, plain_user(job.user.removeprefix(f"{job.sender}!")) or "uucp", job.sender))
     if _text(lines) == os.pread(job.content, length, 0):
         yield job.content
         return
@@ -83,11 +83,11 @@ def _text(lines: Sequence[str]) -> bytes:
     return "\n>".join((*lines, "")).removesuffix(">").encode()
 
 
-def _is_signed(line: str, site: str) -> bool:
-    """Whether a line says that the mail came from a user of the site. (Of two systems rmail takes the first. It takes
+def _is_signed(line: str, neighbour: str) -> bool:
+    """Whether a line says that the mail came from a user of the neighbour. (Of two systems rmail takes the first. It takes
     the first word for the user.)"""
     user, blank, rest = line.removeprefix("From ").partition(" ")
-    return user != "" and line.count("remote from ") == 1 and (blank + rest).endswith(f" remote from {site}")
+    return user != "" and line.count("remote from ") == 1 and (blank + rest).endswith(f" remote from {neighbour}")
 
 
 def _line(job: Delivered, user: str, site: str) -> str:
