@@ -526,7 +526,7 @@ class Entering(Folder):
             self.skipTest("only root can give a folder away")
         os.chown(f"{self.folder}/s", 65534, -1)
         with mock.patch("os.geteuid", return_value=1):
-            self.expect(75, "s belongs to nobody: runuser -u nobody -- test ..")
+            self.expect(75, "s belongs to nobody: type test .. as root, or as nobody")
         os.chown(f"{self.folder}/s", 3_000_000, -1)
         self.expect(78, "s belongs to user 3000000, who has no account")
 

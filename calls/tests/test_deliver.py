@@ -20,7 +20,7 @@ from .standins import LINE, Folder, StandIn, parcel, site
 class Commands(Folder):
     def setUp(self) -> None:
         super().setUp()
-        self.path = self.put("etc/commands", "rmail /r\nlp\t/l\t+options\nrnews /n  +no-words\nnews\t/w\t+options\tc\td\n#off /r\nlpr /l c\ta  d")
+        self.path = self.put("etc/commands", "rmail /r\nlp\t/l\t+options\nrnews /n  +no-words\nnews\t/w\t+options\tc\td\n#off /r\nlpr /l c\ta  d\nown /o b")
 
     def expect(self, why: str, sender: str, name: str, *words: str) -> None:
         with self.assertRaisesRegex(Refusal, why):
@@ -32,7 +32,8 @@ class Commands(Folder):
         self.expect("b lets no word of rmail begin with a hyphen: -oQ/tmp", "a", "rmail", "-oQ/tmp")
         self.expect("b lets rnews have no words", "a", "rnews", "/etc/passwd")
         self.expect("b does not let a run news", "a", "news")
-        for sender, name, *words in ("a", "rmail", "joe"), ("a", "lp", "-d"), ("c", "news", "-x"), ("", "news"), ("a", "lpr", "x"), ("d", "lpr"):
+        self.expect("b does not let its own users run news", "", "news")
+        for sender, name, *words in ("a", "rmail", "joe"), ("a", "lp", "-d"), ("c", "news", "-x"), ("", "lp"), ("", "own"), ("a", "lpr", "x"), ("d", "lpr"):
             commands.find(self.path, name, "b").expect_allowed("b", sender, words, self.path)
 
     def test_another_user(self) -> None:

@@ -19,6 +19,7 @@ class Leaving(Folder):
         super().setUp()
         os.chmod(self.folder, 0o755)
         self.accounts = [account(OWNER, "/")]
+        self.put("scope", "1\n")
 
     def found(self) -> list[str]:
         """What is said of the user OWNER, behind what each sentence has first."""
@@ -109,6 +110,8 @@ class Leaving(Folder):
         for text, found in ("0\n", [line]), ("1\n", []), ("3\n", []):
             self.put("scope", text)
             self.assertEqual(found, self.ends(), text)
+        os.remove(f"{self.folder}/scope")
+        self.assertEqual(["the kernel has no Yama, so begin one that has it, with yama in its list lsm=."], self.ends())
 
     def test_who_may_schedule(self) -> None:
         self.systemctl("masked")

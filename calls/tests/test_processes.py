@@ -1,6 +1,7 @@
 """Programs that are run, locks, and files that are replaced."""
 import ctypes
 import os
+import pty
 import re
 import signal
 import threading
@@ -119,6 +120,16 @@ class Programs(Folder):
         while os.path.exists(f"/proc/{int(ended.output)}/exe") and time.monotonic() - begun < 60:
             time.sleep(0.02)
         self.assertLess(time.monotonic() - begun, 60)
+
+    def test_what_has_a_limit_has_no_terminal(self) -> None:
+        """What is a stranger's always has one. What has none may ask for a password."""
+        for how, has in ({}, True), ({"limit": 60}, False), ({"limit": 60, "leaves_terminal": True}, False), ({"leaves_terminal": True}, False):
+            process, terminal = pty.fork()
+            if process == 0:
+                os._exit(self.sh("exec </dev/tty", **how).status)
+            status = os.waitstatus_to_exitcode(os.waitpid(process, 0)[1])
+            os.close(terminal)
+            self.assertEqual(has, status == 0, how)
 
     def test_a_daemon_that_is_left_behind_isnt_waited_for(self) -> None:
         begun = time.monotonic()

@@ -307,8 +307,8 @@ class Forwarding(Folder):
 
 
 class Envelopes(Folder):
-    def signed(self, data: bytes, user: str = "duke!ann", most: int = 1000) -> bytes:
-        with memory_file(data) as content, envelope.signed(self.mail(content, user), self.folder) as given:
+    def signed(self, data: bytes, user: str = "duke!ann", most: int = 1000, sender: str = "duke") -> bytes:
+        with memory_file(data) as content, envelope.signed(self.mail(content, user)._replace(sender=sender), "mysite", self.folder) as given:
             return os.pread(given, most, 0)
 
     def mail(self, content: int, user: str = "duke!ann") -> Delivered:
@@ -329,6 +329,19 @@ class Envelopes(Folder):
             self.assertRegex(first, rb"^From ann [A-Z][a-z]{2} [A-Z][a-z]{2} [ \d]\d \d\d:\d\d:\d\d \d{4} remote from duke$")
             self.assertEqual(rest, after)
         self.assertEqual(b"From a!b Sun Nov  8 09:30:00 2026 remote from duke\n", self.signed(b"", "duke!a!b"))
+
+    def test_mail_of_a_user_here_has_one_line_of_that_user(self) -> None:
+        line = b"From ann Sun Nov  8 09:30:00 2026 remote from mysite\n"
+        for text, rest in (
+            (b"hello\n", b"hello\n"), (b"", b""), (line + b"hello", b"hello"), (b"From boss x remote from duke\nhello", b"hello"),
+            (b"From joe x remote from mysite\nhello", b"hello"), (b"From annie x remote from mysite\nhello", b"hello"), (b"From ann x remote from duke\nhello", b"hello"),
+            (line + b">From boss x\nFrom\tjoe x\n>From\vjoe x\nhello\n>From y\n", b"hello\n>From y\n"), (b">From boss x\n\nFrom z\n", b"\nFrom z\n"),
+        ):  # fmt: skip
+            self.assertEqual(line + rest, self.signed(text, "ann", sender=""))
+        self.assertEqual(b"From b.example!joe x remote from mysite\nx", self.signed(b"From joe@b.example x remote from mysite\n>From joe@b.example x\nx", "joe@b.example", sender=""))
+
+    def test_no_blank_makes_an_older_line_another_one(self) -> None:
+        self.assertEqual(b"From ann x remote from duke\n>From boss x\n", self.signed(b"From ann x remote from duke\nFrom\tboss x\n"))
 
     def test_users_are_paths_of_plain_words(self) -> None:
         for user, path in (
@@ -362,6 +375,6 @@ class Envelopes(Folder):
             self.assertEqual(b"From duke!c_!x_b Sun Nov  8 09:30:00 2026 remote from mysite\n>From a x remote from duke\n\n", os.pread(given, 1000, 0))
 
     def test_large_mail_has_no_name(self) -> None:
-        with memory_file(bytes(1_048_577)) as content, envelope.signed(self.mail(content), self.folder) as given:
+        with memory_file(bytes(1_048_577)) as content, envelope.signed(self.mail(content), "mysite", self.folder) as given:
             self.assertEqual([], os.listdir(self.folder))
             self.assertEqual(1_048_577, len(os.read(given, 2_000_000).partition(b"\n")[2]))

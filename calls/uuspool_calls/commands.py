@@ -1,6 +1,7 @@
 """The commands that neighbours may run here: /etc/uuspool/commands has a line for each, with its name, its
 program, `+options` if words may begin with a hyphen, `+no-words` if it may have no words, `user=NAME` if it runs
-as another user, `limit=MINUTES` if it may take long, and the neighbours that may use it. If none is named, all may."""
+as another user, `limit=MINUTES` if it may take long, and the neighbours that may use it. If none is named, all may, and
+so may this site's own users, whom this site's name stands for."""
 from collections.abc import Sequence
 
 from .errors import Delay, Refusal
@@ -23,9 +24,9 @@ class Command(NamedTuple):
     minutes: str = ""  # for which it may work, or nothing for the usual time
 
     def expect_allowed(self, own: str, sender: str, words: Sequence[str], path: str) -> None:
-        """Whether this sender may run it with these words. Jobs of this site itself may."""
-        if self.users and sender and sender not in self.users:
-            raise Refusal(f"{own} does not let {sender} run {self.name}: {path} names other neighbours")
+        """Whether this sender may run it with these words. A job of this site's users has no sender."""
+        if self.users and (sender or own) not in self.users:
+            raise Refusal(f"{own} does not let {sender or 'its own users'} run {self.name}: {path} names other neighbours")
         if "+no-words" in self.flags and words:
             raise Refusal(f"{own} lets {self.name} have no words")
         if "+options" not in self.flags and (odd := next((it for it in words if it.startswith("-")), "")):

@@ -1,6 +1,6 @@
 """How one job is delivered at this site. Each word of a stranger goes to its program as one word."""
 import contextlib
-from collections.abc import Callable, Iterator, Mapping, Sequence
+from collections.abc import Callable, Mapping, Sequence
 from functools import partial
 
 from . import commands, envelope, forward, public, works
@@ -178,11 +178,15 @@ class Delivery:
         limit = command.seconds(self._limit, path)
         first = partial(works.note, job.working) if job.working else None
         program = Program(command.line(words), self._folder, environment, limit, _MOST_SHOWN, first=first, leaves_none=True)
-        with _given(job, self._folder) as content:
+        with self._given(job) as content:
             ended = self._session.processes.run(program, content, joined=True)
         if ended.status:
             line = printable((lines_of(ended.output) or [b""])[0])[:_MOST_SHOWN]
             self._explain(ended.status, name, limit, f"{path}: {command.program}", f": {line}" if line else "")
+
+    def _given(self, job: Delivered) -> contextlib.AbstractContextManager[int]:
+        """The open file that a command gets: the job's bytes, and before mail its envelope."""
+        return envelope.signed(job, self._own, self._folder) if job.words[0] == MAIL else contextlib.nullcontext(job.content)
 
     def _explain(self, status: int, name: str, limit: int, program: str, said: str) -> None:
         own = self._own
@@ -203,16 +207,6 @@ def _piece(job: Delivered) -> Piece:
     if piece is None:
         raise Refusal(f"it is no piece of a file: {' '.join(job.words)[:200]}")
     return piece
-
-
-@contextlib.contextmanager
-def _given(job: Delivered, folder: str) -> Iterator[int]:
-    """The open file that a command gets: the job's bytes, and before mail of a neighbour its envelope."""
-    if job.sender and job.words[0] == MAIL:
-        with envelope.signed(job, folder) as content:
-            yield content
-    else:
-        yield job.content
 
 
 def _user_of(job: Delivered) -> str:

@@ -1,6 +1,6 @@
 """The envelope of mail that a neighbour brings: its first line says from which neighbour the mail came, which is true
 whatever the neighbour wrote. The lines before it become `>From`, as RFC 976 has it. The users in these lines are paths of
-plain words, in which no mailer finds another address."""
+plain words, in which no mailer finds another address. Mail of a user of this site has one such line, of that user."""
 import contextlib
 import itertools
 import os
@@ -13,7 +13,7 @@ from .errors import Refusal
 from .jobs import Delivered
 
 _MOST = 1 << 16  # bytes of these lines
-_BEGINS = b"From ", b">From "
+_BEGINS = tuple(quote + b"From" + blank for quote in (b"", b">") for blank in (b" ", b"\t", b"\v", b"\f", b"\r"))  # (what Exim takes for a blank)
 _OF_WORDS = frozenset("ABCDEFGHIJKLMNOPQRSTUVWXYZabcdefghijklmnopqrstuvwxyz0123456789._+=&'~#^-")
 _OF_LINES = _OF_WORDS | frozenset(" !:")
 
@@ -32,12 +32,16 @@ def _plain(text: str, kept: frozenset[str]) -> str:
 
 
 @contextlib.contextmanager
-def signed(job: Delivered, folder: str) -> Iterator[int]:
-    """The open file of mail from a neighbour's user with such a first line, or the file itself if it has it. It is the same
-    if the mail is delivered again. Mail that is larger than a job is on the disk of a folder, and has no name there."""
+def signed(job: Delivered, own: str, folder: str) -> Iterator[int]:
+    """The open file of mail with such a first line, or the file itself if it has it. It is the same if the mail is delivered
+    again. Mail that is larger than a job is on the disk of a folder, and has no name there."""
     lines, length = _lines_of(job.content)
-    if not lines or not _is_signed(lines[0], job.sender):
-        lines.insert(0, _line(job, plain_user(job.user.removeprefix(f"{job.sender}!")) or "uucp", job.sender))
+    site, user = job.sender or own, plain_user(job.user.removeprefix(f"{job.sender}!")) or "uucp"
+    if not job.sender:
+        # (No other site had it before, and a mailer may take the user of the last line.)
+        lines = [it for it in lines[:1] if it.startswith(f"From {user} ") and _is_signed(it, own)]
+    if not lines or not _is_signed(lines[0], site):
+        lines.insert(0, _line(job, user, site))
     if _text(lines) == os.pread(job.content, length, 0):
         yield job.content
         return
@@ -69,13 +73,13 @@ def _lines_of(content: int) -> tuple[list[str], int]:
     head = os.pread(content, _MOST, 0)
     lines = list(itertools.takewhile(lambda it: it.startswith(_BEGINS), head.split(b"\n")))
     length = min(sum(len(it) + 1 for it in lines), len(head))
-    if len(head) == _MOST and length > _MOST - len(_BEGINS[1]):
+    if len(head) == _MOST and length > _MOST - len(_BEGINS[-1]):
         raise Refusal(f"the lines `From ..` before the message have more than {_MOST >> 10} KiB")
     return [_plain_line(it.decode(errors="replace")) for it in lines], length
 
 
 def _plain_line(line: str) -> str:
-    user, _, rest = line.removeprefix(">").removeprefix("From ").partition(" ")
+    user, _, rest = line.removeprefix(">")[len("From ") :].partition(" ")
     return f"From {plain_user(user)} {_plain(rest, _OF_LINES)}"
 
 

@@ -50,11 +50,15 @@ def sentences(session: Session, owner: str) -> Iterator[str]:
     for scheduler in SCHEDULERS:
         if session.finds(scheduler.name) and (cure := scheduler.cure(owner)):
             yield f"{owner} may use {scheduler.name}, and {_LEAVES}: {cure}."
-    if (files.read_bytes(_SCOPE) or b"").strip() == b"0":
-        yield (
-            f"Each process of {owner} may enter another one, such as one that sshd, cron or root began, and {_LEAVES}: "
-            "sysctl -w kernel.yama.ptrace_scope=1, and let a file in /etc/sysctl.d say kernel.yama.ptrace_scope = 1."
-        )
+    if (files.read_bytes(_SCOPE) or b"0").strip() == b"0":
+        yield f"Each process of {owner} may enter another one, such as one that sshd, cron or root began, and {_LEAVES}: {_cure_of_entries()}."
+
+
+def _cure_of_entries() -> str:
+    """What keeps processes of a user from each other. (A kernel without Yama has no such setting.)"""
+    if files.look(_SCOPE):
+        return "sysctl -w kernel.yama.ptrace_scope=1, and let a file in /etc/sysctl.d say kernel.yama.ptrace_scope = 1"
+    return "the kernel has no Yama, so begin one that has it, with yama in its list lsm="
 
 
 def _of_the_manager(session: Session, unit: str) -> Iterator[str]:

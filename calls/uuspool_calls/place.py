@@ -68,7 +68,7 @@ class Place:
         """Failure if a process works in the folder. It would go on in the folder that was there."""
         if workers := self.workers():
             more = f", and {len(workers) - 1} more" if len(workers) > 1 else ""
-            raise Failure(LATER, f"{workers[0]}{more}: stop uuspool-night, mailers and calls, and leave the folder")
+            raise Failure(LATER, f"{workers[0]}{more}: stop uuspool-night, mailers, calls and what users queue, also lines that wait, and leave the folder")
 
     # ---- what takes the place
 

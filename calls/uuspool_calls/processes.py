@@ -168,6 +168,7 @@ class Program(NamedTuple):
     ends_beyond: bool = False
     first: Callable[[], None] | None = None  # what the new process does before it becomes the program
     leaves_none: bool = False  # unless it ends well, all that it began ends with it, also in sessions of its own
+    leaves_terminal: bool = False  # it has a session of its own, and so no terminal, as each program with a limit
 
     def line(self) -> list[str]:
         """The words that are executed. `timeout` ends the program even if this process was killed."""
@@ -180,6 +181,9 @@ class Program(NamedTuple):
         return Child(lambda: self._become(streams), shielded)
 
     def _become(self, streams: Streams | None) -> int:
+        # (At a terminal it could type what whoever typed this command then runs.)
+        if self.leaves_terminal or self.limit is not None:
+            os.setsid()
         if self.first:
             self.first()
         return execute(self.line(), self.folder, self.environment, streams)

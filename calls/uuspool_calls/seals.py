@@ -8,7 +8,7 @@ from collections.abc import Iterator, Sequence
 
 from . import carriers, files, settings
 from .errors import LATER, NOT_SET_UP, USAGE, Failure
-from .session import Session, acting_as, numbers_of, user_name
+from .session import Session, acting_as, line_as, numbers_of, user_name
 
 _KEY = re.compile("[0-9a-fA-F]{64}")
 _UNSEALED = "unsealed"
@@ -104,7 +104,7 @@ class KeyFiles:
 
 def giving(path: str, owner: str) -> str:
     """The lines by which root gives a user a file in a folder of this user's, who may put a link there meanwhile."""
-    return f"chown -h {owner} {path}; runuser -u {owner} -- chmod 600 {path}"
+    return f"chown -h {owner} {path}; {line_as(owner, f'chmod 600 {path}')}"
 
 
 def key_in(text: bytes) -> str:

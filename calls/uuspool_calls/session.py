@@ -87,7 +87,7 @@ class Session:
             number, group = numbers_of(owner)
         except KeyError:
             raise Failure(NOT_SET_UP, f"{owner}, as whom {program.words[0]} has to run, has no account") from None
-        return program._replace(folder="", environment=self.passed(), first=lambda: _become(owner, number, group))
+        return program._replace(folder="", environment=self.passed(), first=lambda: _become(owner, number, group), leaves_terminal=True)
 
     def passed(self) -> dict[str, str]:
         """What another user gets of root's environment, which may have passwords."""
@@ -106,6 +106,11 @@ def _shown(line: str) -> str:
     return "".join(it if it.isprintable() else "?" for it in line)
 
 
+def line_as(user: str, words: str) -> str:
+    """What root types to run words as a user. (By `runuser` they would have root's terminal, folder and keys.)"""
+    return f"{_LIBRARY}/as-owner {user} {words}"
+
+
 def user_name(number: int) -> str:
     """The name of a user, or its number if it has none."""
     try:
@@ -121,13 +126,12 @@ def numbers_of(user: str) -> tuple[int, int]:
 
 
 def _become(user: str, number: int, group: int) -> None:
-    """This process leaves root's folder, terminal and keys, and becomes a user's. (No process of that user sees what it still has
+    """This process leaves root's folder and keys, and becomes a user's. (No process of that user sees what it still has
     open, because the kernel lets nobody look into it until it becomes another program, and that closes all.)"""
     from . import kernel  # (which only root needs)
 
     try:
         os.chdir("/")
-        os.setsid()
         kernel.leave_keyring()
         os.initgroups(user, group)
         os.setresgid(group, group, group)

@@ -111,7 +111,7 @@ def _expect_owner(session: Session, found: settings.Settings, words: Sequence[st
         if owner == os.geteuid():
             return
         name = user_name(owner)
-        raise Failure(LATER, f"{found.folder} belongs to {name}: runuser -u {name} -- {session.command} ..")
+        raise Failure(LATER, f"{found.folder} belongs to {name}: type {session.command} .. as root, or as {name}")
     # (Somebody else's settings lead root to no folder of root's, also if they name another folder from now on.)
     name = owner_of(found)
     if name == user_name(0):
