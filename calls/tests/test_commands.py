@@ -150,6 +150,8 @@ class Carriers(Folder):
             self.put(path, "x")
         self.assertEqual("folder /x\n", self.call_by("", "/x"))
         self.assertEqual("folder /x\n", self.call_by("ssh other\n", "/x"))
+        self.assertEqual('carrier = "folder"\nwords = ["/a b", ""]\n', self.call_by("ssh other\n", "/a b", ""))
+        self.assertEqual({"carrier": "folder", "words": ["/a b", ""]}, carriers.values_of(self.session, "duke"))
         same = '# mine\ncarrier = "folder"\nwords = ["/x"]\nport = "a"\n'
         self.assertEqual(same, self.call_by(same, "/x"))
         self.assertEqual('carrier = "folder"\nwords = ["/\u00fc", "a\\"\\\\"]\nport = "a"\n', self.call_by(same, "/\u00fc", 'a"\\'))

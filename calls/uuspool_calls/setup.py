@@ -156,11 +156,12 @@ class Setup:
     # ---- how this site calls
 
     def call_by(self, carrier: str, words: Sequence[str]) -> None:
-        """Makes this site call the neighbour. Limits that its entry has in TOML stay."""
+        """Makes this site call the neighbour. Limits that its entry has in TOML stay. (A word with a blank, or an empty one, needs TOML.)"""
         limits = carriers.values_of(self._session, self._name)
         call: dict[str, Any] = {"carrier": carrier, "words": [*words]}
-        if not limits:
-            self.write_entry(" ".join((carrier, *words)))
+        line = " ".join((carrier, *words))
+        if not limits and line.split() == [carrier, *words]:
+            self.write_entry(line)
         elif {**limits, **call} != limits:
             self.write_entry("\n".join(f"{key} = {_as_toml(value)}" for key, value in {**call, **limits, **call}.items()))
         if carrier == "ssh":
