@@ -29,6 +29,8 @@ def typed(*words: str, keeps: tuple[int, ...] = (), numbers: tuple[int, ...] = (
     if process == 0:
         status = 99
         try:
+            for number in signal.SIGHUP, signal.SIGINT, signal.SIGTERM:
+                signal.signal(number, signal.SIG_DFL)  # (what runs the tests in the background may have them ignored)
             os.dup2(0, 7)
             if output is not None:
                 os.dup2(output, 1)
