@@ -11,13 +11,15 @@ refused=69 # the spool refuses it, or has no form for it
 later=75   # try again
 export LC_ALL=C
 
-# A local user may not enter the spool's folder, so he asks by sudo, which says who he is. (The user's folder isn't the
-# owner's to enter.) Lines of root run as the folder's owner (see below).
-spool=$bin/uuspool member='' as_owner='' common=/var/spool/uuspool site='' why_not=''
+# A local user may not enter the spool's folder, so he asks by sudo, which says who he is. Whatever else the owner runs may
+# take a folder, a terminal or an open file from what sudo begins, so that gets none of the user's: in a session of its own
+# sudo finds no terminal. Lines of root run as the folder's owner (see below).
+spool=$bin/uuspool member='' by_sudo='' as_owner='' common=/var/spool/uuspool site='' why_not=''
 most_printed=16777216 too_much=141 # the bytes that are kept of what the owner's line prints, if root asks, and its status beyond
 has_input=''                       # whether the line reads standard input
+only_members='members of the group uuspool may do this, from their next login on'
 if [ -z "${UUSPOOL_DIR-}" ] && [ -d "$common" ] && ! [ -O "$common" ] && ! [ -O uuspool.toml ] && ! [ -O / ]; then
-    member=yes spool="env -C / sudo -n -u $(stat -c %U "$common") -- $lib/for-user"
+    member=yes spool=ask_by_sudo by_sudo="env -C / setsid -w sudo -n -u $(stat -c %U "$common") -- $lib/for-user"
 fi
 
 # If not all pieces of a file are queued, none of them stays. Each names $its_pieces. If a shell can't go on, for
@@ -48,8 +50,9 @@ fail() {
     exit "$1"
 }
 
-# Prints a text. The spool's user may have chosen a part of it, and the terminal of root mustn't obey that.
-plainly() { printf '%s\n' "$1" | tr -c ' -~\t\n' '?'; }
+# Prints a text. The spool's user may have chosen a part of it, and no terminal obeys that.
+plainly() { printf '%s\n' "$1" | tr -c "$readable" '?'; }
+readable=' -~\t\n'
 
 # Calls `option NAME VALUE` of the script for each option of the words: `-g` or `--grade`. $valued has the names
 # with a value. $used is then the number of words that were options.
@@ -102,7 +105,7 @@ ask() {
     *) status=$later ;;
     esac
     plainly "${said:-uuspool ended with status $ended, and said nothing}" >&2
-    case $member:$said in yes:'sudo: '*) fail "$status" 'members of the group uuspool may do this, from their next login on' ;; esac
+    case $member:$said in yes:'sudo: '*) fail "$status" "$only_members" ;; esac
     exit "$status"
 }
 
@@ -110,6 +113,24 @@ ask() {
 print() {
     ask "$@"
     [ -z "$said" ] || plainly "$said" || fail "$later" 'cannot write'
+}
+
+# Runs a line by sudo, with no input but that of a job.
+ask_by_sudo() {
+    if [ -n "$has_input" ]; then $by_sudo "$@"; else $by_sudo "$@" </dev/null; fi
+}
+
+# Prints what a member's line prints, each line as it comes, and ends as that does. (sudo's own status is 1.)
+pass_on() {
+    {
+        ended=$({
+            {
+                { $spool "$@" 3>&- 4>&- 5>&-; echo "$?" >&4; } 2>&3 | stdbuf -oL tr -c "$readable" '?' >&5
+            } 3>&1 | stdbuf -oL tr -c "$readable" '?' >&2
+        } 4>&1)
+    } 5>&1
+    [ "$ended" != 1 ] || fail "$refused" "$only_members"
+    exit "${ended:-$later}"
 }
 
 # Asks which site this is. $site is then what `uuspool site` printed, or else $why_not says why it printed nothing. If it
