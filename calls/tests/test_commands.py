@@ -473,6 +473,19 @@ class Small(Folder):
                 self.assertEqual(found, len(session.printed), (mode, days))
 
 
+    def test_what_a_check_finds_of_the_rotation_of_taylors_logs(self) -> None:
+        os.makedirs(f"{self.folder}/logs")
+        debians = "/var/log/uucp/Log {\n\tdaily\n\tcompress\n\tdelaycompress\n}\n"
+        cured = debians.replace("\tcompress", "\tnocompress").replace("\tdelaycompress", "\tsu uucp uucp")
+        for lines, owner, found in (debians, "", 1), (cured, "", 0), ("\tmail root\n", "", 1), ("\tnomail\n", "", 0), (debians, "daemon", 0), ("", "", 0):
+            with patch.multiple(check, _LOGS_OF_TAYLOR=f"{self.folder}/logs", _ROTATION_OF_TAYLOR=self.put("uucp", lines)):
+                session = Quiet(self.folder)
+                looks = check.Check(session)
+                looks._owner = owner or pwd.getpwuid(os.geteuid()).pw_name
+                looks._check_rotation()
+                self.assertEqual(found, len(session.printed), (lines, owner))
+
+
 class Ends(Folder):
     def test_statuses(self) -> None:
         for error, status, said in (

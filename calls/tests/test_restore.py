@@ -35,6 +35,27 @@ class Log(Folder):
         self.assertEqual({1: "settle", 2: "done", 3: "kill"}, {number: it.how for number, it in said.gone.items()})
         self.assertEqual((f"{DAY} 15:00:00", 7, []), (said.gone[3].moment, said.greatest, said.faults))
 
+    def test_what_stood_for_a_job_and_is_lost(self) -> None:
+        """1 was moved twice, 2 was moved and handed on, 3 was handed on and then moved; 4, 5 and 6 are no such jobs."""
+
+        def anew(number: int, of: int, how: str, user: str = "ann") -> str:
+            return line(13, number, f"exec -gC --once=mysite!{of}!{how} -- duke rmail x!{number}").replace("ann", user)
+
+        chains = anew(11, 1, "again") + anew(12, 11, "again") + anew(13, 2, "again") + anew(14, 13, "onward", "unc!joe") + anew(15, 3, "onward") + anew(16, 15, "again")
+        others = anew(17, 4, "again") + line(13, 18, "exec -gC -- duke rmail --once=mysite!5!again") + anew(6, 19, "again") + line(13, 20, "exec -gC --once=mysite!6!again")
+        gone = "".join(line(14, number, "kill -- x") for number in (1, 11, 2, 13, 3, 15, 4, 17, 5, 6))
+        self.put("log", chains + others + gone)
+        said = self.said()
+
+        def words(number: int) -> tuple[str, ...]:
+            return ("--as=ann", "exec", "-gC", f"--once=mysite!{ {12: 11, 13: 2}[number] }!again", "--", "duke", "rmail", f"x!{number}")
+
+        lost = [said.lost(number, 10) for number in range(1, 8)]
+        self.assertEqual([(12, words(12)), (14, words(13)), (16, ()), None, None, None, None], lost)
+        self.assertEqual([None, None, (16, ())], [said.lost(number, 15) for number in (1, 2, 3)])
+        self.put("log", chains + gone + line(15, 12, "settle"))
+        self.assertIsNone(self.said().lost(1, 10))
+
     def test_each_init_begins_another_spool(self) -> None:
         self.put("log", line(1, 1, "kill 1") + line(2, "-", "init") + line(3, 2, "kill 2") + line(4, "-", "init") + line(5, 9, "kill 9"))
         for hour, gone, greatest in (1, [1], 1), (3, [2], 2), (6, [9], 9):

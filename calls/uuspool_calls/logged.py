@@ -1,6 +1,7 @@
-"""What the log says of the jobs of a spool: which are gone, and the greatest number that was given. The file is read, and those
-that logrotate made of it, oldest first."""
+"""What the log says of the jobs of a spool: which are gone, which were queued anew, and the greatest number that was given. The file
+is read, and those that logrotate made of it, oldest first."""
 import contextlib
+import itertools
 import os
 import re
 from collections.abc import Iterator
@@ -14,6 +15,8 @@ _MOST_OF_A_LINE = 1 << 16
 _FOLDER = os.O_RDONLY | os.O_DIRECTORY | os.O_CLOEXEC
 _ENDS = re.compile(r"(?:\.([0-9]{1,4})|-([0-9]{8}(?:-[0-9]+)?))?(\.gz)?\Z")  # of a file that logrotate made
 _GOES = (b"settle", b"done", b"kill")  # the lines that remove a job
+_QUEUES = (b"send", b"exec", b"request")
+_ANEW = re.compile(rb"-g[!-~] --once=[!-~]+!([1-9][0-9]{0,9})!(again|onward|request) -- ([!-~]+(?: [!-~]+)*)\n?\Z")  # what stands for the job of this number
 
 
 class Line(NamedTuple):
@@ -23,18 +26,38 @@ class Line(NamedTuple):
     how: str
 
 
+class Anew(NamedTuple):
+    """A job that stands for another one, which was moved or queued anew, or whose delivery handed it on."""
+
+    number: int
+    line: tuple[str, ...]  # that queues it anew, or nothing if another delivery does that
+
+
 class Said(NamedTuple):
     """What the log says of a spool."""
 
     gone: dict[int, Line]
+    anew: dict[int, Anew]  # by the number of the job for which it stands
     greatest: int  # number of a job, or 0
     faults: list[str]  # what couldn't be read, and why
+
+    def lost(self, number: int, first: int) -> Anew | None:
+        """The job that stands for one which is gone, if that one isn't gone, too, and a copy lacks it, which has the numbers before
+        the first. It has the line of the last one that was queued anew before one was handed on."""
+        lines: list[tuple[str, ...]] = []
+        while number in self.gone and (its := self.anew.get(number)):
+            lines.append(its.line)
+            number = its.number
+        if not lines or number in self.gone or number < first:
+            return None
+        return Anew(number, ((), *itertools.takewhile(bool, lines))[-1])
 
 
 def read(path: str, owner: str, moment: str) -> Said:
     """What the log at a path says of the spool that there was at a moment. Each `init` begins another spool. For root the
     owner of the spool opens the files, who may put links there."""
     gone: dict[int, Line] = {}
+    anew: dict[int, Anew] = {}
     faults: list[str] = []
     greatest = 0
     for words in _lines(path, owner, faults):
@@ -42,13 +65,25 @@ def read(path: str, owner: str, moment: str) -> Said:
         if words[6] == b"init":
             if at > moment:
                 break
-            gone, greatest = {}, 0
+            gone, anew, greatest = {}, {}, 0
         elif words[4].isdigit():
             number = int(words[4])
             greatest = max(greatest, number)
             if words[6] in _GOES:
                 gone[number] = Line(at, words[6].decode())
-    return Said(gone, greatest, faults)
+            elif found := _stands_for(words):
+                anew[found[0]] = found[1]
+    return Said(gone, anew, greatest, faults)
+
+
+def _stands_for(words: list[bytes]) -> tuple[int, Anew] | None:
+    """For which job one stands that was queued. (Numbers grow, so no job stands for itself.)"""
+    found = _ANEW.match(words[7]) if words[6] in _QUEUES and len(words) > 7 else None
+    if not found or int(found[1]) >= int(words[4]):
+        return None
+    options, _, rest = words[7].partition(b" -- ")
+    line = (b"--as=" + words[3], words[6], *options.split(), b"--", *rest.split()) if found[2] == b"again" else ()
+    return int(found[1]), Anew(int(words[4]), tuple(it.decode(errors="replace") for it in line))
 
 
 def _lines(path: str, owner: str, faults: list[str]) -> Iterator[list[bytes]]:

@@ -2,19 +2,20 @@
 
 It is made whole in a new folder beside, and the program reads each row of it. In the turn of the spool that is there, it gets
 a next number above all that were given, loses the jobs that are gone since the copy was made, as the log says, and gets
-what is beside the spool that is there. Then both folders are exchanged in one step. So whenever the command is stopped, the
-site has one of the two spools, whole.
+what is beside the spool that is there. A job that is gone because another one stood for it, which is lost with the spool that is
+there, waits again. Then both folders are exchanged in one step. So whenever the command is stopped, the site has one of the
+two spools, whole.
 
 root or the spool's user runs it. For root the owner of the spool's folder opens what is in it, and runs the program there."""
 import contextlib
 import os
 import stat
-from collections.abc import Callable, Collection, Sequence
+from collections.abc import Callable, Collection, Mapping, Sequence
 
 from . import files, logged, options, restored, turn
 from .copies import Copier, Target
 from .errors import LATER, NOT_SET_UP, USAGE, Failure
-from .jobs import Job
+from .jobs import Job, Parcel
 from .journal import Journal
 from .place import ASIDE, INNER, Place
 from .processes import Ended, Program
@@ -33,8 +34,17 @@ _LITTLE = 1_000  # from that, otherwise, because a crash may have taken the ends
 _SETTINGS = "restoring.toml"  # with which the program works on what is made
 _PRESENT, _ITS_COPY = "present", "copy"  # folders in which the program reads copies of both spools
 _MOST = 1 << 28  # bytes that the program may print
+_AT_A_TIME = 64  # jobs whose bytes are in memory
 _ENDS = ("", "-wal", "-word", "-lock", "-reserve", "-journal", "-new", "-new-wal", ASIDE)  # of the names of the spool's files
 _NEW = os.O_WRONLY | os.O_CREAT | os.O_EXCL | os.O_NOFOLLOW | os.O_CLOEXEC
+
+
+class Gone(NamedTuple):
+    """A job of the copy that is gone, by this line of the log, and the job that stood for it and is lost."""
+
+    job: Job
+    line: logged.Line
+    lost: logged.Anew | None
 
 
 class Known(NamedTuple):
@@ -100,17 +110,17 @@ class Restoration:
             said = logged.read(self._settings.log, self._owner, self._source.moment())
             self.faults += (f"{it}, so jobs of which it says that they are done may wait again" for it in said.faults)
             number = _number(least, copy.next, present.next, said.greatest)
-            gone = [job for job in copy.jobs if job.number in said.gone]
-            self._change(made, number, gone)
-            self._fill(made, {job.number for job in copy.jobs} - said.gone.keys())
+            gone = [Gone(job, said.gone[job.number], said.lost(job.number, copy.next)) for job in copy.jobs if job.number in said.gone]
+            anew = self._change(made, number, gone)
+            self._fill(made, {job.number for job in copy.jobs} - {it.job.number for it in gone if not it.lost} - anew.keys())
             self._put(made, restored.NAME, restored.text_of([*self._given_up(), (copy.next, number)]))
             made.sync()
             self._session.processes.check()
             with self._session.processes.finishing():
                 self._place.expect_nobody()
                 path = self._exchange(made)
-        self._tell(gone, said, number, path)
-        known = {job.number for job in copy.jobs} | said.gone.keys()
+        self._tell(gone, anew, number, path)
+        known = {job.number for job in copy.jobs} | said.gone.keys() | {it.lost.number for it in gone if it.lost}
         for job in present.jobs:
             if job.number not in known:
                 self._session.print(f"not in the copy: job {_shown(job)}")
@@ -184,18 +194,42 @@ class Restoration:
 
     # ---- what is made
 
-    def _change(self, made: Target, number: int, gone: Sequence[Job]) -> None:
-        """The made spool gives numbers from this one on, and loses these jobs."""
+    def _change(self, made: Target, number: int, gone: Sequence[Gone]) -> dict[int, int]:
+        """The made spool gives numbers from this one on, and loses these jobs, but for those for which a lost one stood. The result
+        has the new numbers of those that were queued anew."""
         made.sync()
         ended = self._run(INNER, ["renumber", str(number)])
         if ended.status:
             raise Failure(LATER, f"the next number of the copy can't be made {number}: {one_line(ended.errors + ended.output)}")
-        answers = self._batch(INNER, [(f"--as={job.user} kill {job.number}".encode(), b"") for job in gone])
-        if [it.status for it in answers] != [0] * len(gone):
-            raise Failure(LATER, f"jobs that are done can't be removed from the copy: {self._why or one_line(answers[-1].output)}")
+        self._remove([it.job for it in gone if not it.lost])
+        moved = sorted((it for it in gone if it.lost and it.lost.line), key=lambda it: it.lost.number if it.lost else 0)
+        anew: dict[int, int] = {}
+        for at in range(0, len(moved), _AT_A_TIME):
+            anew |= self._queue_anew(moved[at : at + _AT_A_TIME])
         for name in _SETTINGS, "log", f"{self._source.name}-lock", f"{self._source.name}-reserve":
             with contextlib.suppress(FileNotFoundError):
                 os.unlink(name, dir_fd=made.handle)
+        return anew
+
+    def _remove(self, jobs: Sequence[Job]) -> None:
+        answers = self._batch(INNER, [(f"--as={job.user} kill {job.number}".encode(), b"") for job in jobs])
+        if [it.status for it in answers] != [0] * len(jobs):
+            raise Failure(LATER, f"jobs that are done can't be removed from the copy: {self._why or one_line(answers[-1].output)}")
+
+    def _queue_anew(self, moved: Sequence[Gone]) -> dict[int, int]:
+        """Queues jobs anew by the lines that did that before. One that isn't queued waits as it is in the copy."""
+        shown = self._batch(INNER, [(f"show {it.job.number}".encode(), b"") for it in moved])
+        lines = [" ".join(it.lost.line).encode() if it.lost else b"" for it in moved]
+        answers = self._batch(INNER, [(line, Parcel.read(its.output).data) for line, its in zip(lines, shown, strict=True)])
+        numbers: dict[int, int] = {}
+        for it, answer in zip(moved, answers, strict=True):
+            if answer.status:
+                why = one_line(answer.errors + answer.output)
+                self.faults.append(f"job {_shown(it.job)} had been queued anew, which fails now, so it waits as it was in the copy: {why}")
+            else:
+                numbers[it.job.number] = int(answer.output.split()[1])
+        self._remove([it.job for it in moved if it.job.number in numbers])
+        return numbers
 
     def _batch(self, name: str, requests: Sequence[tuple[bytes, bytes]]) -> list[Ended]:
         """The answers to requests, of which a spool that fails gives less."""
@@ -264,18 +298,30 @@ class Restoration:
 
     # ---- what is told
 
-    def _tell(self, gone: Sequence[Job], said: logged.Said, number: int, path: str) -> None:
+    def _tell(self, gone: Sequence[Gone], anew: Mapping[int, int], number: int, path: str) -> None:
         """Says it on standard output and in the log."""
         with acting_as(self._owner):
             log = Journal(self._settings.log, self._settings.zone, self._session.say)
             log.note("", user_name(os.geteuid()), "", "restored", f"from {self._source.path}: the next job gets {number} or a later number")
-            for job in gone:
-                log.note(job.system, job.user, job.number, "done-before", f"{said.gone[job.number].how}: {job.what}")
-        for job in gone:
-            line = said.gone[job.number]
-            self._session.print(f"done before ({line.how}, {line.moment}): job {_shown(job)}")
+            for job, line, lost in gone:
+                if lost and job.number in anew:
+                    log.note(_system_of(lost), job.user, anew[job.number], "done", " ".join(lost.line[1:]))
+                    log.note(_system_of(lost), job.user, anew[job.number], "moved", f"from {job.system}, where it was job {job.number}")
+                elif not lost:
+                    log.note(job.system, job.user, job.number, "done-before", f"{line.how}: {job.what}")
+        for job, line, lost in gone:
+            if not lost:
+                self._session.print(f"done before ({line.how}, {line.moment}): job {_shown(job)}")
+            elif job.number in anew:
+                self._session.print(f"queued anew for {_system_of(lost)} as job {anew[job.number]}, since job {lost.number} is lost: job {_shown(job)}")
+            else:
+                self._session.print(f"waits again, since job {lost.number} is lost: job {_shown(job)}")
         self._session.print(f"the next job gets {number} or a later number")
         self._session.print(f"the spool that was there is in {path}")
+
+
+def _system_of(lost: logged.Anew) -> str:
+    return lost.line[lost.line.index("--") + 1]
 
 
 def _shown(job: Job) -> str:
