@@ -56,6 +56,18 @@ class Log(Folder):
         self.put("log", chains + gone + line(15, 12, "settle"))
         self.assertIsNone(self.said().lost(1, 10))
 
+    def test_what_was_handed_on_in_pieces(self) -> None:
+        def piece(number: int, of: str, at: int, user: str = "unc!joe") -> str:
+            return line(13, number, f"exec -gN -- duke uuspool-piece {'0a' * 32}.9.3.{of}-{DAY}-12:00:00 {at} exec rmail x").replace("ann", user)
+
+        pieces = "".join(piece(10 + at, "1", at) + piece(20 + at, "2", at) + piece(30 + at, "3", at, "ann") for at in (0, 3, 6)) + piece(40, "x", 0)
+        gone = "".join(line(14, number, "done mysite x") for number in (1, 2, 3, 10, 13, 20, 23, 26))
+        moved = line(15, 17, "exec -gN --once=mysite!16!again -- phs uuspool-piece x") + line(15, 16, "kill -- 16")
+        for text, wanted in (pieces + gone, (16, ())), (pieces + gone + moved, (17, ())), (pieces + gone + moved + line(16, 17, "settle"), None):
+            self.put("log", text)
+            said = self.said()
+            self.assertEqual([wanted, None, None], [said.lost(number, 10) for number in (1, 2, 3)])
+
     def test_each_init_begins_another_spool(self) -> None:
         self.put("log", line(1, 1, "kill 1") + line(2, "-", "init") + line(3, 2, "kill 2") + line(4, "-", "init") + line(5, 9, "kill 9"))
         for hour, gone, greatest in (1, [1], 1), (3, [2], 2), (6, [9], 9):

@@ -17,6 +17,7 @@ _ENDS = re.compile(r"(?:\.([0-9]{1,4})|-([0-9]{8}(?:-[0-9]+)?))?(\.gz)?\Z")  # o
 _GOES = (b"settle", b"done", b"kill")  # the lines that remove a job
 _QUEUES = (b"send", b"exec", b"request")
 _ANEW = re.compile(rb"-g[!-~] --once=[!-~]+!([1-9][0-9]{0,9})!(again|onward|request) -- ([!-~]+(?: [!-~]+)*)\n?\Z")  # what stands for the job of this number
+_PIECE = re.compile(rb"-g[!-~] -- [!-~]+ uuspool-piece [0-9a-f]+\.[0-9]+\.[0-9]+\.([1-9][0-9]{0,9})-[0-9:-]+ ")  # of what a job of this number handed on
 
 
 class Line(NamedTuple):
@@ -41,6 +42,12 @@ class Said(NamedTuple):
     greatest: int  # number of a job, or 0
     faults: list[str]  # what couldn't be read, and why
 
+    def waits(self, number: int) -> bool:
+        """Whether a job, or the last one that stands for it, isn't gone."""
+        while number in self.gone and number in self.anew:
+            number = self.anew[number].number
+        return number not in self.gone
+
     def lost(self, number: int, first: int) -> Anew | None:
         """The job that stands for one which is gone, if that one isn't gone, too, and a copy lacks it, which has the numbers before
         the first. It has the line of the last one that was queued anew before one was handed on."""
@@ -58,6 +65,7 @@ def read(path: str, owner: str, moment: str) -> Said:
     owner of the spool opens the files, who may put links there."""
     gone: dict[int, Line] = {}
     anew: dict[int, Anew] = {}
+    pieces: dict[int, list[int]] = {}
     faults: list[str] = []
     greatest = 0
     for words in _lines(path, owner, faults):
@@ -65,7 +73,7 @@ def read(path: str, owner: str, moment: str) -> Said:
         if words[6] == b"init":
             if at > moment:
                 break
-            gone, anew, greatest = {}, {}, 0
+            gone, anew, pieces, greatest = {}, {}, {}, 0
         elif words[4].isdigit():
             number = int(words[4])
             greatest = max(greatest, number)
@@ -73,7 +81,13 @@ def read(path: str, owner: str, moment: str) -> Said:
                 gone[number] = Line(at, words[6].decode())
             elif found := _stands_for(words):
                 anew[found[0]] = found[1]
-    return Said(gone, anew, greatest, faults)
+            elif of := _is_piece_of(words):
+                pieces.setdefault(of, []).append(number)
+    said = Said(gone, anew, greatest, faults)
+    for of, numbers in pieces.items():
+        if left := [it for it in numbers if said.waits(it)]:
+            anew[of] = Anew(max(left), ())
+    return said
 
 
 def _stands_for(words: list[bytes]) -> tuple[int, Anew] | None:
@@ -84,6 +98,13 @@ def _stands_for(words: list[bytes]) -> tuple[int, Anew] | None:
     options, _, rest = words[7].partition(b" -- ")
     line = (b"--as=" + words[3], words[6], *options.split(), b"--", *rest.split()) if found[2] == b"again" else ()
     return int(found[1]), Anew(int(words[4]), tuple(it.decode(errors="replace") for it in line))
+
+
+def _is_piece_of(words: list[bytes]) -> int:
+    """The number of the job of a neighbour that was handed on in pieces, of which a job that was queued is one, or 0."""
+    found = _PIECE.match(words[7]) if words[6] == b"exec" and b"!" in words[3] and len(words) > 7 else None
+    number = int(found[1]) if found else 0
+    return number if number < int(words[4]) else 0
 
 
 def _lines(path: str, owner: str, faults: list[str]) -> Iterator[list[bytes]]:
