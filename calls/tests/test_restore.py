@@ -308,7 +308,10 @@ class Stale(Folder):
     def test_a_job_of_the_copy_was_done_before(self) -> None:
         self.put("restored", "1000 2000\n")
         self.assertEqual([], self.take(7))
-        self.assertEqual(((1, 0, True), ["duke ann 7 done-before exec rmail joe"], [2000]), (self.counts, self.site.log, sorted(self.spool.parcels)))
+        why = "duke had it before the spool here was put back, or it was moved or killed before: queue it again if it never came"
+        self.assertEqual(((1, 0, True), [f"duke ann 7 refused-for-good {why}"], [2000]), (self.counts, self.site.log[:1], sorted(self.spool.parcels)))
+        kept = next(it for it in os.listdir(f"{self.folder}/refused") if it.startswith("7"))
+        self.assertEqual([why, parcel().job.line], self.bytes_of(f"refused/{kept}").decode().split("\n")[:2])
         self.assertEqual([], self.take(7))
         self.assertEqual((0, 0, False), self.counts)
 
@@ -325,7 +328,16 @@ class Stale(Folder):
     def test_a_job_that_cannot_be_removed(self) -> None:
         self.put("restored", "1000 2000\n")
         self.spool.fails["kill"] = SpoolError(3, "uuspool: spool: store")
-        self.assertEqual(["job 7 was done before the spool was put back, and cannot be removed: uuspool: spool: store"], self.take(7))
+        self.assertEqual(([], [2000, 7]), (self.take(7), sorted(self.spool.parcels, reverse=True)))
+        self.assertEqual((0, 0, False), self.counts)
+
+    def test_a_piece_is_refused_alone(self) -> None:
+        piece = LINE.replace("exec rmail joe", f"exec uuspool-piece {'0a' * 32}.9.3.m %d send /x ~/x")
+        self.spool = StandIn([parcel(piece % 0), parcel((piece % 3).replace("7 ", "8 ", 1))])
+        self.site = site(self.folder, self.spool)
+        self.put("restored", "1000 2000\n")
+        self.take(7)
+        self.assertEqual([8], sorted(self.spool.parcels))
 
 
 class Locks(Folder):

@@ -196,7 +196,7 @@ class Neighbour:
         passed = False
         for refused in taken.settled.refused:
             if refused.reason == "Stale" and self._was_done(refused.number):
-                self._remove_done(taken, refused.number)
+                self._refuse_done(taken, refused.number)
             elif refused.reason in ("Differs", "Stale"):
                 times = 1
                 if refused.reason == "Stale" and not passed:
@@ -215,19 +215,16 @@ class Neighbour:
 
         return restored.was_done(self._site.folder, number)
 
-    def _remove_done(self, taken: Taken, number: int) -> None:
-        """Removes a job of a copy that was put back. The neighbour was told that no job of its number comes any more, so it had
-        the job before, or the job was killed here before."""
+    def _refuse_done(self, taken: Taken, number: int) -> None:
+        """Refuses a job of a copy that was put back. The neighbour was told that no job of its number comes any more, so it had
+        the job before, or the job was killed or moved here before. Nobody knows which if the log is lost, so it is kept."""
+        from .refusals import Refuser, tell
+
         parcel = self._site.spool.show(number)
-        if parcel is None:
-            return  # (somebody removed it meanwhile)
-        try:
-            self._site.spool.kill(parcel.job)
-        except SpoolError as error:
-            taken.faults.append(f"job {number} was done before the spool was put back, and cannot be removed: {error}")
-            return
-        taken.removed += 1
-        self._site.log.note(self._name, parcel.job.user, number, "done-before", parcel.job.what)
+        why = f"{self._name} had it before the spool here was put back, or it was moved or killed before: queue it again if it never came"
+        if parcel and Refuser(self._site).refuse_alone(parcel, why):
+            taken.removed += 1
+            tell(self._site, at_once=False)
 
     def _refuse(self, number: int) -> None:
         from .refusals import Refuser, tell

@@ -68,6 +68,10 @@ class Refuser:
         shown = (self._site.spool.show(it.number) for it in jobs)
         return all([self._refuse(it, why, is_kept) for it in shown if it])
 
+    def refuse_alone(self, parcel: Parcel, why: str) -> bool:
+        """Refuses a job, and no other piece of its file."""
+        return self._refuse(parcel, why, is_kept=False)
+
     def _refuse(self, parcel: Parcel, why: str, is_kept: bool) -> bool:
         reason, job = printable(why[:500]), parcel.job
         try:
