@@ -39,6 +39,7 @@ class Said(NamedTuple):
 
     gone: dict[int, Line]
     anew: dict[int, Anew]  # by the number of the job for which it stands
+    delivered: set[int]  # jobs that were delivered here, also the pieces with which files were
     greatest: int  # number of a job, or 0
     faults: list[str]  # what couldn't be read, and why
 
@@ -66,24 +67,27 @@ def read(path: str, owner: str, moment: str) -> Said:
     gone: dict[int, Line] = {}
     anew: dict[int, Anew] = {}
     pieces: dict[int, list[int]] = {}
+    delivered: set[int] = set()
     faults: list[str] = []
     greatest = 0
     for words in _lines(path, owner, faults):
         at = b" ".join(words[:2]).decode(errors="replace")
-        if words[6] == b"init":
+        if words[5:7] == [b"done", b"init"]:
             if at > moment:
                 break
-            gone, anew, pieces, greatest = {}, {}, {}, 0
+            gone, anew, pieces, delivered, greatest = {}, {}, {}, set(), 0
         elif words[4].isdigit():
             number = int(words[4])
             greatest = max(greatest, number)
-            if words[6] in _GOES:
+            if words[5] == b"delivered":
+                delivered.add(number)
+            elif words[6] in _GOES:
                 gone[number] = Line(at, words[6].decode())
             elif found := _stands_for(words):
                 anew[found[0]] = found[1]
             elif of := _is_piece_of(words):
                 pieces.setdefault(of, []).append(number)
-    said = Said(gone, anew, greatest, faults)
+    said = Said(gone, anew, delivered, greatest, faults)
     for of, numbers in pieces.items():
         if left := [it for it in numbers if said.waits(it)]:
             anew[of] = Anew(max(left), ())
@@ -108,14 +112,14 @@ def _is_piece_of(words: list[bytes]) -> int:
 
 
 def _lines(path: str, owner: str, faults: list[str]) -> Iterator[list[bytes]]:
-    """The words of each line that says that something was done: two of the moment, the system, the user, the number, `done`,
-    and what was done."""
+    """The words of each line that says that something was done, or a job delivered: two of the moment, the system, the user, the
+    number, `done` or `delivered`, and what."""
     for file in _opened(path, owner, faults):
         with file:
             try:
                 while line := file.readline(_MOST_OF_A_LINE):
                     words = line.split(maxsplit=7)
-                    if len(words) > 6 and words[5] == b"done" and len(words[4]) < 20:
+                    if len(words) > 6 and words[5] in (b"done", b"delivered") and len(words[4]) < 20:
                         yield words
             except (OSError, EOFError, ValueError) as error:
                 faults.append(f"{file.name}: {error}")

@@ -17,6 +17,7 @@ from .copies import Copier, Target
 from .errors import LATER, NOT_SET_UP, USAGE, Failure
 from .jobs import Job, Parcel
 from .journal import Journal
+from .pieces import Piece, name_of
 from .place import ASIDE, INNER, Place
 from .processes import Ended, Program
 from .session import Session, acting_as, user_name
@@ -107,7 +108,7 @@ class Restoration:
         with turn.Turn(self._settings.spool, self._session.setting("UUSPOOL_PATIENCE", 60), self._owner) as its_turn, contextlib.ExitStack() as stack:
             its_turn.wait_for_it(self._pause)
             present = self._present(room, its_turn, stack)
-            said = logged.read(self._settings.log, self._owner, self._source.moment())
+            said = self._without_lost_pieces(logged.read(self._settings.log, self._owner, self._source.moment()), copy.jobs)
             self.faults += (f"{it}, so jobs of which it says that they are done may wait again" for it in said.faults)
             number = _number(least, copy.next, present.next, said.greatest)
             gone = [Gone(job, said.gone[job.number], said.lost(job.number, copy.next)) for job in copy.jobs if job.number in said.gone]
@@ -124,6 +125,15 @@ class Restoration:
         for job in present.jobs:
             if job.number not in known:
                 self._session.print(f"not in the copy: job {_shown(job)}")
+
+    def _without_lost_pieces(self, said: logged.Said, jobs: Sequence[Job]) -> logged.Said:
+        """If the pieces of files that came here are lost, a job that brought one isn't done, unless the file was delivered."""
+        if self._is_same and "pieces" in os.listdir(self._place.handle):
+            return said
+        came = {name_of(job) for job in jobs if job.number in said.delivered}
+        lost = {job.number for job in jobs if job.system == self._settings.name and Piece.of(job) and name_of(job) not in came}
+        gone = {number: line for number, line in said.gone.items() if number not in lost or line.how != "done"}
+        return said._replace(gone=gone)
 
     def _begun(self, room: Target, name: str) -> Target:
         """A new folder for a spool, with settings for it."""
