@@ -150,9 +150,11 @@ class Copier:
                 elif stat.S_ISDIR(seen.st_mode) and path.count("/") >= _DEEPEST:
                     self.left_out.append(f"{path}/{name}: is in too many folders")
                 elif stat.S_ISDIR(seen.st_mode):
-                    self._enter(name, folder, f"{path}/{name}", target.folder(name), wanted)
+                    self._enter(name, folder, f"{path}/{name}", target.folder(name, seen), wanted)
                 elif stat.S_ISLNK(seen.st_mode):
                     os.symlink(os.readlink(name, dir_fd=folder), name, dir_fd=target.handle)
+                    if os.geteuid() == 0:
+                        os.chown(name, seen.st_uid, seen.st_gid, dir_fd=target.handle, follow_symlinks=False)
                 elif wanted is None or wanted(name):
                     self._open(name, folder, target, name, f"{path}/{name}")
 
