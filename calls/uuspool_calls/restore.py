@@ -229,8 +229,12 @@ class Restoration:
     def _queue_anew(self, moved: Sequence[Gone]) -> dict[int, int]:
         """Queues jobs anew by the lines that did that before. One that isn't queued waits as it is in the copy."""
         shown = self._batch(INNER, [(f"show {it.job.number}".encode(), b"") for it in moved])
+        if [it.status for it in shown] != [0] * len(moved):
+            raise Failure(LATER, f"jobs that had been queued anew can't be read from the copy: {self._why}")
         lines = [" ".join(it.lost.line).encode() if it.lost else b"" for it in moved]
         answers = self._batch(INNER, [(line, Parcel.read(its.output).data) for line, its in zip(lines, shown, strict=True)])
+        if len(answers) != len(moved):
+            raise Failure(LATER, f"jobs can't be queued anew in the copy: {self._why}")
         numbers: dict[int, int] = {}
         for it, answer in zip(moved, answers, strict=True):
             if answer.status:
