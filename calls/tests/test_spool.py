@@ -114,3 +114,6 @@ class Journals(Folder):
         os.mkdir(f"{self.folder}/log")
         log.note("duke", "ann", 7, "says", "hello")
         self.assertRegex(said[0], rf"{self.folder}/log cannot be written, and lacks: \S+ \S+ duke ann 7 says hello")
+        os.mkfifo(f"{self.folder}/pipe")
+        Journal(f"{self.folder}/pipe", "UTC0", said.append).note("duke", "ann", 7, "says", "hello")  # (Nobody reads it.)
+        self.assertIn(f"{self.folder}/pipe cannot be written, and lacks: ", said[1])

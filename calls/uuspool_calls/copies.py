@@ -50,6 +50,13 @@ class Target:
             _make_like(handle, seen)
             os.utime(handle, ns=(seen.st_atime_ns, seen.st_mtime_ns))
 
+    def put_text(self, name: str, text: str, like: os.stat_result) -> None:
+        """A new file with a text, for its owner alone, who is that of another one, if this is root."""
+        with files.opened(name, _NEW, folder=self.handle) as handle:
+            files.write_all(handle, text.encode())
+            if os.geteuid() == 0:
+                os.fchown(handle, like.st_uid, like.st_gid)
+
     def sync(self) -> None:
         """Writes everything to the disk."""
         for part in self._parts:

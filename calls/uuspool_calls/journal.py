@@ -7,6 +7,8 @@ from . import clock
 from .files import opened
 from .texts import printable
 
+_ADD = os.O_WRONLY | os.O_APPEND | os.O_CREAT | os.O_NONBLOCK  # (nobody waits for who reads a pipe)
+
 
 class Journal:
     """The log of a site, by the site's clock. If it can't be written, the line is printed,
@@ -23,7 +25,7 @@ class Journal:
         moment = clock.shown(self._zone, clock.now())
         line = printable(f"{moment} {system or '-'} {user or '-'} {job or '-'} {how.replace(' ', '-')} {words}")
         try:
-            with opened(self._path, os.O_WRONLY | os.O_APPEND | os.O_CREAT) as handle:
+            with opened(self._path, _ADD) as handle:
                 os.write(handle, f"{line}\n".encode())
         except OSError:
             self._say(f"{self._path} cannot be written, and lacks: {line}")

@@ -1,10 +1,13 @@
-"""What the log says of the jobs of a spool: which are gone, which were queued anew, and the greatest number that was given. The file
-is read, and those that logrotate made of it, oldest first."""
+"""What the log says of the jobs of a copy since it was made: which are gone, which were queued anew, and the greatest number that
+was given. The file is read, and those that logrotate made of it, oldest first.
+
+`uuspool-backup` writes a line for each copy, and `uuspool-restore` for each that it puts back: the mark of the copy, and the word of its
+spool. They say which lines count. No clock does, and no line about another spool. If the log has no line of a copy, none
+counts, because a job that comes twice is better than none."""
 import contextlib
-import itertools
 import os
 import re
-from collections.abc import Iterator
+from collections.abc import Iterable, Iterator, Mapping
 
 from . import turn
 from .session import acting_as
@@ -12,8 +15,13 @@ from .values import Any, NamedTuple
 
 _MOST = 1 << 28  # bytes of a file, from its end
 _MOST_OF_A_LINE = 1 << 16
+_MOST_FILES = 100  # the newest
+_MOST_ANEW = 1 << 20  # jobs that stand for others
 _FOLDER = os.O_RDONLY | os.O_DIRECTORY | os.O_CLOEXEC
 _ENDS = re.compile(r"(?:\.([0-9]{1,4})|-([0-9]{8}(?:-[0-9]+)?))?(\.gz)?\Z")  # of a file that logrotate made
+COPIED, RESTORED = "copied", "restored"  # the lines about copies
+_COPIES = (COPIED.encode(), RESTORED.encode())
+_OTHERS = (b"init", b"renumber")  # the lines after which another spool may be there
 _GOES = (b"settle", b"done", b"kill")  # the lines that remove a job
 _QUEUES = (b"send", b"exec", b"request")
 _ANEW = re.compile(rb"-g[!-~] --once=[!-~]+!([1-9][0-9]{0,9})!(again|onward|request) -- ([!-~]+(?: [!-~]+)*)\n?\Z")  # what stands for the job of this number
@@ -35,63 +43,100 @@ class Anew(NamedTuple):
 
 
 class Said(NamedTuple):
-    """What the log says of a spool."""
+    """What the log says of jobs since a copy was made, or put back for the first time."""
 
     gone: dict[int, Line]
-    anew: dict[int, Anew]  # by the number of the job for which it stands
+    lost: dict[int, Anew]  # those of them for which others stood, none of which is in the copy, or done: the last one
     delivered: set[int]  # jobs that were delivered here, also the pieces with which files were
-    greatest: int  # number of a job, or 0
+    greatest: int  # number of a job of any spool, or 0
+    has_mark: bool  # whether it has a line of the copy. Otherwise it says nothing of its jobs
     faults: list[str]  # what couldn't be read, and why
 
-    def waits(self, number: int) -> bool:
-        """Whether a job, or the last one that stands for it, isn't gone."""
-        while number in self.gone and number in self.anew:
-            number = self.anew[number].number
-        return number not in self.gone
 
-    def lost(self, number: int, first: int) -> Anew | None:
-        """The job that stands for one which is gone, if that one isn't gone, too, and a copy lacks it, which has the numbers before
-        the first. It has the line of the last one that was queued anew before one was handed on."""
-        lines: list[tuple[str, ...]] = []
-        while number in self.gone and (its := self.anew.get(number)):
-            lines.append(its.line)
-            number = its.number
-        if not lines or number in self.gone or number < first:
-            return None
-        return Anew(number, ((), *itertools.takewhile(bool, lines))[-1])
-
-
-def read(path: str, owner: str, moment: str) -> Said:
-    """What the log at a path says of the spool that there was at a moment. Each `init` begins another spool. For root the
-    owner of the spool opens the files, who may put links there."""
-    gone: dict[int, Line] = {}
-    anew: dict[int, Anew] = {}
-    pieces: dict[int, list[int]] = {}
-    delivered: set[int] = set()
+def read(path: str, owner: str, word: str, mark: str, jobs: Iterable[int]) -> Said:
+    """What the log at a path says of jobs of the spool with this word since a copy of it was made or put back, whose lines have
+    this mark. For root the owner of the spool opens the files, who may put links there."""
     faults: list[str] = []
-    greatest = 0
+    reading = _Reading(word, mark, frozenset(jobs))
     for words in _lines(path, owner, faults):
-        at = b" ".join(words[:2]).decode(errors="replace")
-        if words[5:7] == [b"done", b"init"]:
-            if at > moment:
-                break
-            gone, anew, pieces, delivered, greatest = {}, {}, {}, set(), 0
+        reading.take(words)
+    return Said(reading.gone, reading.lost(), reading.delivered, reading.greatest, reading.has_mark, faults)
+
+
+class _Reading:
+    """What the lines so far say. A line is about the spool if the last copy that was made or put back before it is the spool's, and
+    no other spool was made since. Only some jobs are followed, and those that stand for them, which have greater numbers."""
+
+    def __init__(self, word: str, mark: str, jobs: frozenset[int]) -> None:
+        self._word, self._mark, self._jobs, self._followed = word.encode(), mark.encode(), jobs, set(jobs)
+        self.gone: dict[int, Line] = {}
+        self._done: set[int] = set()  # those for which none stood when they went
+        self._anew: dict[int, list[Anew]] = {}  # what stood for each, the last one last
+        self._pieces: dict[int, list[list[int]]] = {}  # in which each was handed on, once or again
+        self._moved: set[int] = set()  # those for which one stands since a copy was put back last
+        self.delivered: set[int] = set()
+        self.greatest = 0
+        self.has_mark = self._is_its = False
+
+    def take(self, words: list[bytes]) -> None:
+        """Takes the next line."""
+        if words[5] in _COPIES:
+            self._is_its = len(words) > 7 and words[7].split()[:1] == [self._word]
+            self.has_mark |= self._is_its and words[6] == self._mark
+            if self._is_its and words[5] == RESTORED.encode():
+                self._moved.clear()
+        elif words[5] == b"done" and words[6] in _OTHERS:
+            self._is_its = False
         elif words[4].isdigit():
             number = int(words[4])
-            greatest = max(greatest, number)
-            if words[5] == b"delivered":
-                delivered.add(number)
-            elif words[6] in _GOES:
-                gone[number] = Line(at, words[6].decode())
-            elif found := _stands_for(words):
-                anew[found[0]] = found[1]
-            elif of := _is_piece_of(words):
-                pieces.setdefault(of, []).append(number)
-    said = Said(gone, anew, delivered, greatest, faults)
-    for of, numbers in pieces.items():
-        if left := [it for it in numbers if said.waits(it)]:
-            anew[of] = Anew(max(left), ())
-    return said
+            self.greatest = max(self.greatest, number)
+            if self.has_mark and self._is_its:
+                self._take_job(number, words)
+
+    def _take_job(self, number: int, words: list[bytes]) -> None:
+        if words[5] == b"delivered":
+            self.delivered |= {number} & self._followed
+        elif words[6] in _GOES:
+            if number in self._followed:
+                self.gone[number] = Line(b" ".join(words[:2]).decode(errors="replace"), words[6].decode())
+                self._done |= {number} - self._moved
+        elif found := _stands_for(words):
+            if self._follows(number, found[0]):
+                self._moved.add(found[0])
+                self._anew.setdefault(found[0], []).append(found[1])
+        elif (of := _is_piece_of(words)) and self._follows(number, of):
+            pieces = self._pieces.setdefault(of, [])
+            if of not in self._moved or not pieces:
+                pieces.append([])
+            pieces[-1].append(number)
+            self._moved.add(of)
+
+    def _follows(self, number: int, of: int) -> bool:
+        """Whether a job that stands for another one is followed from now on. (If there are too many, it isn't, and the other waits.)"""
+        if of not in self._followed or len(self._followed) >= len(self._jobs) + _MOST_ANEW:
+            return False
+        self._followed.add(number)
+        return True
+
+    def lost(self) -> dict[int, Anew]:
+        """The jobs that are gone because others stood for them, none of which is a job of the copy, or done."""
+        done, kept = set(self._done), set(self._jobs)
+        lost: dict[int, Anew] = {}
+        for number in sorted(self.gone.keys() & (self._anew.keys() | self._pieces.keys()) - done, reverse=True):
+            anew, pieces = self._anew.get(number, []), self._pieces.get(number, [])
+            if any(it.number in done for it in anew) or any(map(done.issuperset, pieces)):
+                done.add(number)
+            elif any(it.number in kept for it in anew):
+                kept.add(number)
+            else:
+                lost[number] = _last(anew[-1], lost) if anew else max(_last(Anew(it, ()), lost) for it in pieces[-1] if it not in done)
+        return lost
+
+
+def _last(anew: Anew, lost: Mapping[int, Anew]) -> Anew:
+    """The last of the jobs that stood for each other, with the line of the last one that was queued anew before one was handed on."""
+    later = lost.get(anew.number)
+    return Anew(later.number, (later.line or anew.line) if anew.line else ()) if later else anew
 
 
 def _stands_for(words: list[bytes]) -> tuple[int, Anew] | None:
@@ -112,14 +157,14 @@ def _is_piece_of(words: list[bytes]) -> int:
 
 
 def _lines(path: str, owner: str, faults: list[str]) -> Iterator[list[bytes]]:
-    """The words of each line that says that something was done, or a job delivered: two of the moment, the system, the user, the
-    number, `done` or `delivered`, and what."""
+    """The words of each line that says that something was done, a job delivered, or a copy made or put back: two of the moment, the
+    system, the user, the number, how, and what."""
     for file in _opened(path, owner, faults):
         with file:
             try:
                 while line := file.readline(_MOST_OF_A_LINE):
                     words = line.split(maxsplit=7)
-                    if len(words) > 6 and words[5] in (b"done", b"delivered") and len(words[4]) < 20:
+                    if len(words) > 6 and words[5] in (b"done", b"delivered", *_COPIES) and len(words[4]) < 20:
                         yield words
             except (OSError, EOFError, ValueError) as error:
                 faults.append(f"{file.name}: {error}")
@@ -135,10 +180,10 @@ def _opened(path: str, owner: str, faults: list[str]) -> Iterator["_File"]:
             faults.append(f"{folder}: {error.strerror}")
             return
     try:
-        for found in rotated(os.listdir(handle), name):
+        for found in rotated(os.listdir(handle), name)[-_MOST_FILES:]:
             try:
-                with acting_as(owner):
-                    opened = turn.opened(found, os.O_RDONLY, handle)
+                with acting_as(owner):  # (A restoration that was killed may have left a second name.)
+                    opened = turn.opened(found, os.O_RDONLY, handle, any_names=True)
             except OSError as error:
                 faults.append(f"{folder}/{found}: {error.strerror}")
                 continue

@@ -3,12 +3,14 @@
 What is made for that is in `NAME.restoring` beside it. Before the step this folder becomes `NAME.before.MOMENT`, which only
 who runs the command can enter. After the step the folder that was the spool's is in it, so no line that began in that
 folder finds its spool there."""
+import contextlib
 import errno
 import fcntl
 import os
 import shutil
 import stat
 import time
+from collections.abc import Collection
 
 from . import clock, files, kernel
 from .copies import Target
@@ -61,7 +63,8 @@ class Place:
 
     def workers(self) -> list[str]:
         """The processes that work in the folder, or have a file in it open, as far as this user may know."""
-        found = ((int(it), _uses(f"/proc/{it}", self.path)) for it in os.listdir("/proc") if it.isdigit() and int(it) != os.getpid())
+        users = {0, self.seen.st_uid}
+        found = ((int(it), _uses(f"/proc/{it}", self.path, users)) for it in os.listdir("/proc") if it.isdigit() and int(it) != os.getpid())
         return [f"process {number} ({_name_of(number)}) has {path}" for number, path in sorted(found) if path]
 
     def expect_nobody(self) -> None:
@@ -79,6 +82,7 @@ class Place:
             with files.opened(name, _FOLDER, folder=self._parent) as handle:
                 _lock(handle, f"{self.parent}/{name}")
                 self._remove(name)
+        self._remove_second_names()
         try:
             self._room = Target(name, self._parent)
         except PermissionError:
@@ -114,6 +118,15 @@ class Place:
             os.fsync(handle)
         return f"{self.parent}/{name}/{INNER}"
 
+    def _remove_second_names(self) -> None:
+        """A killed run may have left files of the place with a second name in the folder that was there."""
+        for before in (it for it in os.listdir(self._parent) if it.startswith(f"{self.name}.before.")):
+            with contextlib.suppress(OSError), files.opened(f"{before}/{INNER}", _FOLDER, folder=self._parent) as folder:
+                for name in os.listdir(folder):
+                    ours, its = files.look(name, self.handle, follows=False), files.look(name, folder, follows=False)
+                    if ours and its and stat.S_ISREG(its.st_mode) and os.path.samestat(ours, its):
+                        os.unlink(name, dir_fd=folder)
+
     def _free_name(self) -> str:
         """Under which the folder that was there is kept."""
         head = f"{self.name}.before.{time.strftime('%Y%m%dT%H%M%SZ', time.gmtime(clock.now()))}"
@@ -125,7 +138,10 @@ class Place:
         return seen is not None and stat.S_ISDIR(seen.st_mode)
 
     def _remove(self, name: str) -> None:
-        shutil.rmtree(name, ignore_errors=True, dir_fd=self._parent)
+        try:
+            shutil.rmtree(name, ignore_errors=True, dir_fd=self._parent)
+        except RecursionError:
+            raise Failure(LATER, f"{self.parent}/{name} has too many folders in each other: remove it by rm -rf") from None
 
 
 def _mount_of(handle: int) -> bytes:
@@ -141,15 +157,16 @@ def _lock(handle: int, path: str) -> None:
         raise Failure(LATER, f"another uuspool-restore works in {path}") from None
 
 
-def _uses(process: str, folder: str) -> str:
-    """Which file of a folder a process has open, or the folder if it works there, or nothing."""
+def _uses(process: str, folder: str, users: Collection[int]) -> str:
+    """Which file of a folder a process has open, or the folder if it works there, or nothing. Anybody may mount another folder at
+    its path for own processes, so the file has to be the same, or a removed one that a process of these users has open."""
     for link in f"{process}/cwd", *(f"{process}/fd/{it}" for it in files.names_in(f"{process}/fd")):
-        try:
+        with contextlib.suppress(OSError):
             path = os.readlink(link)
-        except OSError:
-            continue
-        if path == folder or path.startswith(f"{folder}/"):
-            return path
+            if path == folder or path.startswith(f"{folder}/"):
+                ours = files.look(path, follows=False)
+                if os.path.samestat(os.stat(link), ours) if ours else os.stat(process).st_uid in users:
+                    return path
     return ""
 
 

@@ -30,6 +30,7 @@ from .values import NamedTuple
 
 _USAGE = "usage: uuspool-restore [-n NUMBER] COPY"
 _LAST = 4294967294  # number of a job
+_NO_LIMIT = 1 << 40  # bytes of a spool that is made, which may be as long as the site's limit lets it be
 _DISTANCE = 1_000_000  # from the greatest number that is known, if the spool that is there can't be read
 _LITTLE = 1_000  # from that, otherwise, because a crash may have taken the ends of the spool and of the log
 _SETTINGS = "restoring.toml"  # with which the program works on what is made
@@ -37,7 +38,6 @@ _PRESENT, _ITS_COPY = "present", "copy"  # folders in which the program reads co
 _MOST = 1 << 28  # bytes that the program may print
 _AT_A_TIME = 64  # jobs whose bytes are in memory
 _ENDS = ("", "-wal", "-word", "-lock", "-reserve", "-journal", "-new", "-new-wal", ASIDE)  # of the names of the spool's files
-_NEW = os.O_WRONLY | os.O_CREAT | os.O_EXCL | os.O_NOFOLLOW | os.O_CLOEXEC
 
 
 class Gone(NamedTuple):
@@ -104,52 +104,58 @@ class Restoration:
         self._source.put_spool(made)
         copy = self._known(room, _ITS_COPY, self._source.put_spool)
         if not copy.next:
-            raise Failure(LATER, f"the spool in {self._source.path} can't be read: {self._why}: take an earlier copy")
+            raise Failure(LATER, f"the spool in {self._source.path} can't be read: {self._why}: make room on the disk, or take an earlier copy")
         with turn.Turn(self._settings.spool, self._session.setting("UUSPOOL_PATIENCE", 60), self._owner) as its_turn, contextlib.ExitStack() as stack:
             its_turn.wait_for_it(self._pause)
             present = self._present(room, its_turn, stack)
-            said = self._without_lost_pieces(logged.read(self._settings.log, self._owner, self._source.moment()), copy.jobs)
+            said = self._said(copy.jobs)
             self.faults += (f"{it}, so jobs of which it says that they are done may wait again" for it in said.faults)
             number = _number(least, copy.next, present.next, said.greatest)
-            gone = [Gone(job, said.gone[job.number], said.lost(job.number, copy.next)) for job in copy.jobs if job.number in said.gone]
+            gone = [Gone(job, said.gone[job.number], said.lost.get(job.number)) for job in copy.jobs if job.number in said.gone]
             anew = self._change(made, number, gone)
-            self._fill(made, {job.number for job in copy.jobs} - {it.job.number for it in gone if not it.lost} - anew.keys())
-            self._put(made, restored.NAME, restored.text_of([*self._given_up(), (copy.next, number)]))
+            self._fill(made, {job.number for job in copy.jobs} | self._read(self._handed()).gone.keys())
+            made.put_text(restored.NAME, restored.text_of([*self._given_up(), (copy.next, number)]), self._place.seen)
             made.sync()
             self._session.processes.check()
             with self._session.processes.finishing():
                 self._place.expect_nobody()
                 path = self._exchange(made)
+        if not said.has_mark:
+            self._session.print("the log has no line of this copy, so jobs that were done since it was made wait again")
         self._tell(gone, anew, number, path)
         known = {job.number for job in copy.jobs} | said.gone.keys() | {it.lost.number for it in gone if it.lost}
         for job in present.jobs:
             if job.number not in known:
                 self._session.print(f"not in the copy: job {_shown(job)}")
 
-    def _without_lost_pieces(self, said: logged.Said, jobs: Sequence[Job]) -> logged.Said:
-        """If the pieces of files that came here are lost, a job that brought one isn't done, unless the file was delivered."""
-        if self._is_same and "pieces" in os.listdir(self._place.handle):
-            return said
+    def _said(self, jobs: Sequence[Job]) -> logged.Said:
+        """What the log says of the jobs of the copy. A job that brought a piece of a file here isn't done, unless the file was
+        delivered: the piece may be lost. (One that is there may come again.)"""
+        said = self._read({job.number for job in jobs})
         came = {name_of(job) for job in jobs if job.number in said.delivered}
-        lost = {job.number for job in jobs if job.system == self._settings.name and Piece.of(job) and name_of(job) not in came}
-        gone = {number: line for number, line in said.gone.items() if number not in lost or line.how != "done"}
+        pieces = {job.number for job in jobs if job.system == self._settings.name and Piece.of(job) and name_of(job) not in came}
+        gone = {number: line for number, line in said.gone.items() if number not in pieces or line.how != "done"}
         return said._replace(gone=gone)
+
+    def _read(self, jobs: Collection[int]) -> logged.Said:
+        """What the log says of jobs since the copy was made."""
+        return logged.read(self._settings.log, self._owner, self._source.word, self._source.mark, jobs)
+
+    def _handed(self) -> set[int]:
+        """The jobs of which notes say that Taylor UUCP has them."""
+        folder = f"{self._place.path}/taylor"
+        with acting_as(self._owner):
+            names = [name.removesuffix(".json") for system in files.names_in(folder) for name in files.names_in(f"{folder}/{system}")]
+        return {int(it) for it in names if is_number(it)}
 
     def _begun(self, room: Target, name: str) -> Target:
         """A new folder for a spool, with settings for it."""
         import json  # (takes long to load)
 
         target = room.folder(name, self._place.seen)
-        limit = f"limit = {self._settings.limit}\n" if self._settings.limit else ""
-        self._put(target, _SETTINGS, f"name = {json.dumps(self._settings.name)}\nspool = {json.dumps(self._source.name, ensure_ascii=False)}\n{limit}")
+        text = f"name = {json.dumps(self._settings.name)}\nspool = {json.dumps(self._source.name, ensure_ascii=False)}\nlimit = {_NO_LIMIT}\n"
+        target.put_text(_SETTINGS, text, self._place.seen)
         return target
-
-    def _put(self, target: Target, name: str, text: str) -> None:
-        """A new file of the spool's user."""
-        with files.closing(os.open(name, _NEW, 0o600, dir_fd=target.handle)) as handle:
-            files.write_all(handle, text.encode())
-            if os.geteuid() == 0:
-                os.fchown(handle, self._place.seen.st_uid, self._place.seen.st_gid)
 
     # ---- what is known
 
@@ -261,13 +267,13 @@ class Restoration:
         environment = {key: value for key, value in program.environment.items() if key != "UUSPOOL_DIR"}
         return self._session.processes.run(program._replace(folder=f"{self._place.room}/{name}", environment=environment), given)
 
-    def _fill(self, made: Target, left: Collection[int]) -> None:
+    def _fill(self, made: Target, known: Collection[int]) -> None:
         """Puts beside the made spool what is beside the one that is there, and what only the copy has. (If that is another spool,
-        what is noted of its jobs stays there.)"""
+        what is noted of its jobs stays there.) These jobs are in the copy, or gone since."""
         names = {it for it in os.listdir(self._place.handle) if self._is_carried(it)}
         with Copier([self._place.seen.st_uid], self._owner) as copier:
             for name in sorted(names):
-                self._carry(name, made, copier, left)
+                self._carry(name, made, copier, known)
             self._finish(copier)
         with Copier([self._place.seen.st_uid]) as copier:
             for name in BESIDE:
@@ -283,12 +289,12 @@ class Restoration:
         is_spools = name.removeprefix(self._source.name) in _ENDS or name == restored.NAME
         return is_kept(name) and not is_spools and (self._is_same or name not in BESIDE)
 
-    def _carry(self, name: str, made: Target, copier: Copier, left: Collection[int]) -> None:
+    def _carry(self, name: str, made: Target, copier: Copier, known: Collection[int]) -> None:
         path, seen = f"{self._place.path}/{name}", files.look(name, self._place.handle, follows=False)
         if seen is None:
             return
         if stat.S_ISDIR(seen.st_mode):
-            copier.take(path, made.folder(name), _wanted(name, left))
+            copier.take(path, made.folder(name), _wanted(name, known))
         elif stat.S_ISLNK(seen.st_mode):
             os.symlink(os.readlink(name, dir_fd=self._place.handle), name, dir_fd=made.handle)
 
@@ -316,10 +322,12 @@ class Restoration:
         """Says it on standard output and in the log."""
         with acting_as(self._owner):
             log = Journal(self._settings.log, self._settings.zone, self._session.say)
-            log.note("", user_name(os.geteuid()), "", "restored", f"from {self._source.path}: the next job gets {number} or a later number")
+            which = f"{self._source.mark or '-'} {self._source.word} from {self._source.path}"
+            log.note("", user_name(os.geteuid()), "", logged.RESTORED, f"{which}: the next job gets {number} or a later number")
             for job, line, lost in gone:
                 if lost and job.number in anew:
                     log.note(_system_of(lost), job.user, anew[job.number], "done", " ".join(lost.line[1:]))
+                    log.note(job.system, job.user, job.number, "done", f"kill {job.number}")
                     log.note(_system_of(lost), job.user, anew[job.number], "moved", f"from {job.system}, where it was job {job.number}")
                 elif not lost:
                     log.note(job.system, job.user, job.number, "done-before", f"{line.how}: {job.what}")
@@ -342,13 +350,13 @@ def _shown(job: Job) -> str:
     return f"{job.number} for {job.system} of {job.user}: {job.what}"
 
 
-def _wanted(folder: str, left: Collection[int]) -> Callable[[str], bool]:
-    """Which files in a folder are brought over. Taylor UUCP goes on with a job that the copy doesn't have, and a note of it
-    would take it back."""
+def _wanted(folder: str, known: Collection[int]) -> Callable[[str], bool]:
+    """Which files in a folder are brought over. Taylor UUCP goes on with a job that is lost here, and a note of it would take it
+    back. One that was killed or moved has to be taken back, so its note stays."""
 
     def is_wanted(name: str) -> bool:
         number = name.removesuffix(".json")
-        return is_kept(name) and (folder != "taylor" or not number.isdecimal() or int(number) in left)
+        return is_kept(name) and (folder != "taylor" or not number.isdecimal() or int(number) in known)
 
     return is_wanted
 
