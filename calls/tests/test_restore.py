@@ -174,7 +174,7 @@ class Places(Folder):
         return target
 
     def test_the_folders_are_exchanged(self) -> None:
-        with place.Place(self.path, "") as its:
+        with place.Place(self.path, "", "spool.db") as its:
             before = its.exchange(self.made(its), "spool.db")
         self.assertEqual((b"after", ["spool.db"]), (self.bytes_of("site/spool.db"), os.listdir(self.path)))
         self.assertEqual(["refused", "spool.db.aside"], sorted(os.listdir(before)))
@@ -184,43 +184,43 @@ class Places(Folder):
     def test_a_second_one_in_the_same_second(self) -> None:
         with mock.patch("uuspool_calls.clock.now", return_value=1_800_000_000):
             for _ in range(2):
-                with place.Place(self.path, "") as its:
+                with place.Place(self.path, "", "spool.db") as its:
                     its.exchange(self.made(its), "spool.db")
         self.assertEqual(2, sum(".before." in it for it in os.listdir(self.folder)))
 
     def test_what_fails_leaves_nothing(self) -> None:
-        with self.assertRaises(KeyError), place.Place(self.path, "") as its:
+        with self.assertRaises(KeyError), place.Place(self.path, "", "spool.db") as its:
             self.made(its)
             raise KeyError
         self.assertEqual((["after", "site"], b"before"), (sorted(os.listdir(self.folder)), self.bytes_of("site/spool.db")))
 
     def test_a_file_system_that_cannot_exchange(self) -> None:
         with mock.patch.object(kernel, "exchange", side_effect=OSError(22, "Invalid argument")), self.assertRaisesRegex(Failure, "no other folder can take the place of .*: put the copy back by hand"):
-            with place.Place(self.path, "") as its:
+            with place.Place(self.path, "", "spool.db") as its:
                 its.exchange(self.made(its), "spool.db")
         self.assertEqual((["after", "site"], b"before"), (sorted(os.listdir(self.folder)), self.bytes_of("site/spool.db")))
 
     def test_what_a_killed_run_left_is_removed_unless_it_goes_on(self) -> None:
         self.put("site.restoring/spool/spool.db", "x")
-        with place.Place(self.path, "") as its:
+        with place.Place(self.path, "", "spool.db") as its:
             room = its.begin()
             self.assertEqual([], os.listdir(room.handle))
-            with place.Place(self.path, "") as other, self.assertRaisesRegex(Failure, "another uuspool-restore works in"):
+            with place.Place(self.path, "", "spool.db") as other, self.assertRaisesRegex(Failure, "another uuspool-restore works in"):
                 other.begin()
         self.put("site/log", "x")
         self.put("site.before.1/spool/old", "x")
         for name in "log", "old":
             os.link(f"{self.path}/log", f"{self.folder}/site.before.1/spool/{name}.2")
         os.link(f"{self.path}/log", f"{self.folder}/site.before.1/spool/log")
-        with place.Place(self.path, "") as its:
+        with place.Place(self.path, "", "spool.db") as its:
             its.begin()
         self.assertEqual(["log.2", "old", "old.2"], sorted(os.listdir(f"{self.folder}/site.before.1/spool")))
         os.symlink(self.folder, f"{self.path}.restoring")
-        with place.Place(self.path, "") as its, self.assertRaises(OSError):
+        with place.Place(self.path, "", "spool.db") as its, self.assertRaises(OSError):
             its.begin()
 
     def test_who_works_there(self) -> None:
-        with place.Place(self.path, "") as its:
+        with place.Place(self.path, "", "spool.db") as its:
             own = f"process {os.getpid()}"
             its.expect_nobody()
             for how in {"cwd": self.path}, {"cwd": f"{self.path}/refused"}, {"stdin": os.open(f"{self.path}/spool.db", os.O_RDONLY)}:
@@ -240,21 +240,21 @@ class Places(Folder):
     def test_a_parent_that_others_write(self) -> None:
         os.chmod(self.folder, 0o777)
         with self.assertRaisesRegex(Failure, "others may write"):
-            place.Place(self.path, "")
+            place.Place(self.path, "", "spool.db")
         os.chmod(self.folder, 0o755)
         self.give(self.folder)
         with self.assertRaisesRegex(Failure, "belongs to another user"):
-            place.Place(self.path, "")
+            place.Place(self.path, "", "spool.db")
 
     def test_a_mount_point(self) -> None:
         with mock.patch.object(place, "_mount_of", side_effect=[b"1", b"2"]), self.assertRaisesRegex(Failure, "is a mount point, so that no other folder takes its place: put the copy back by hand"):
-            place.Place(self.path, "")
+            place.Place(self.path, "", "spool.db")
 
     def test_a_link_in_the_place_of_the_spool(self) -> None:
         """The spool's user has put it there: nothing but its name changes."""
         os.remove(f"{self.path}/spool.db")
         os.symlink(self.put("roots", "root's"), f"{self.path}/spool.db")
-        with place.Place(self.path, "") as its:
+        with place.Place(self.path, "", "spool.db") as its:
             before = its.exchange(self.made(its), "spool.db")
         self.assertTrue(os.path.islink(f"{before}/spool.db.aside"))
         self.assertEqual(b"root's", self.bytes_of("roots"))
@@ -278,9 +278,14 @@ class Sources(Folder):
             target = Target(f"{self.folder}/target")
             its.put_spool(target)
         self.assertEqual([b"x", b"y", b"w1\n"], [self.bytes_of(f"target/spool.db{end}") for end in ("", "-wal", "-word")])
-        self.put(f"{os.path.relpath(self.copy, self.folder)}/spool/copied", "0a\n")
-        with self.source() as its:
-            self.assertEqual("0a", its.mark)
+        for text in "0a\n", "0a 1 1\n":
+            self.put(f"{os.path.relpath(self.copy, self.folder)}/spool/copied", text)
+            with self.source() as its:
+                self.assertEqual("0a", its.mark)
+        self.put(f"{os.path.relpath(self.copy, self.folder)}/spool/spool.db-wal", "")
+        self.refuses("spool.db-wal has 0 bytes, and had 1 in the copy")
+        os.remove(f"{self.copy}/spool/spool.db-wal")
+        self.refuses("spool.db-wal is missing, and had 1 in the copy")
 
     def test_what_is_no_copy_of_this_site(self) -> None:
         self.put("mysite.20261128T154726Z/settings.toml", 'name = "unc"\n')

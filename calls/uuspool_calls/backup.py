@@ -163,7 +163,6 @@ class Backup:
         with self._place.begun(name) as (chosen, target):
             seen = os.stat(self._settings.folder)
             spool, mark = target.folder("spool", seen), os.urandom(8).hex()
-            spool.put_text(MARK, f"{mark}\n", seen)
             with Copier([seen.st_uid], self._owner) as copier:
                 self._take_spool(spool, copier, f"{mark} {self._word()} {self._place.path}/{chosen}")
                 self._session.processes.check()
@@ -172,6 +171,7 @@ class Backup:
             self._take_others(target)
             self._session.processes.check()
             self._check(f"{self._place.path}/{chosen}{_NEW}/spool")
+            spool.put_text(MARK, f"{mark} {self._sizes(spool)}\n", seen)
             target.sync()
             self._session.processes.check()
             self._place.keep(chosen)
@@ -200,6 +200,11 @@ class Backup:
             for folder in BESIDE:
                 if os.path.isdir(f"{found.folder}/{folder}"):
                     copier.take(f"{found.folder}/{folder}", target.folder(folder), is_kept)
+
+    def _sizes(self, target: Target) -> str:
+        """The bytes of the copied files of the spool."""
+        name = os.path.basename(self._settings.spool)
+        return " ".join(str(os.stat(f"{name}{end}", dir_fd=target.handle).st_size) for end in ("", "-wal"))
 
     def _expect_word(self, target: Target) -> None:
         word = f"{self._settings.spool}-word"

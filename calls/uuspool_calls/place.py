@@ -10,7 +10,7 @@ import os
 import shutil
 import stat
 import time
-from collections.abc import Collection
+from collections.abc import Callable, Collection
 
 from . import clock, files, kernel
 from .copies import Target
@@ -21,6 +21,7 @@ INNER = "spool"  # the folder that is made, and after the step the one that was 
 ASIDE = ".aside"  # ends the name of the spool in the folder that was there
 _FOLDER = os.O_RDONLY | os.O_DIRECTORY | os.O_NOFOLLOW | os.O_CLOEXEC
 _OTHERS_WRITE = 0o022
+_LOOKS, _PAUSE = 50, 0.1  # how often it is looked whether somebody works there, and the seconds between
 _NEVER = (errno.EBUSY, errno.EXDEV, errno.EINVAL, errno.ENOSYS, errno.EOPNOTSUPP)  # what rename says of a mount point, or if it can't
 BY_HAND = "put the copy back by hand, as backup.md says"
 
@@ -28,8 +29,8 @@ BY_HAND = "put the copy back by hand, as backup.md says"
 class Place:
     """The folder of a spool, which belongs to this user, and the folder that it is in."""
 
-    def __init__(self, folder: str, owner: str) -> None:
-        self.path, self._owner = os.path.realpath(folder), owner
+    def __init__(self, folder: str, owner: str, spool: str) -> None:
+        self.path, self._owner, self._lock = os.path.realpath(folder), owner, f"{os.path.realpath(folder)}/{spool}-lock"
         self.parent, self.name = os.path.split(self.path)
         self._room: Target | None = None
         self._parent = os.open(self.parent, _FOLDER)
@@ -62,10 +63,19 @@ class Place:
     # ---- who works there
 
     def workers(self) -> list[str]:
-        """The processes that work in the folder, or have a file in it open, as far as this user may know."""
+        """The processes that work in the folder, or have a file in it open, as far as this user may know. (Who has the lock alone
+        waits for the turn, and then opens the spool that is there.)"""
         users = {0, self.seen.st_uid}
-        found = ((int(it), _uses(f"/proc/{it}", self.path, users)) for it in os.listdir("/proc") if it.isdigit() and int(it) != os.getpid())
+        found = ((int(it), _uses(f"/proc/{it}", self.path, users, self._lock)) for it in os.listdir("/proc") if it.isdigit() and int(it) != os.getpid())
         return [f"process {number} ({_name_of(number)}) has {path}" for number, path in sorted(found) if path]
+
+    def wait_for_nobody(self, pause: Callable[[float], None]) -> None:
+        """Failure if processes work in the folder for some time. (Lines of members begin again and again.)"""
+        for _ in range(_LOOKS):
+            if not self.workers():
+                return
+            pause(_PAUSE)
+        self.expect_nobody()
 
     def expect_nobody(self) -> None:
         """Failure if a process works in the folder. It would go on in the folder that was there."""
@@ -157,13 +167,13 @@ def _lock(handle: int, path: str) -> None:
         raise Failure(LATER, f"another uuspool-restore works in {path}") from None
 
 
-def _uses(process: str, folder: str, users: Collection[int]) -> str:
-    """Which file of a folder a process has open, or the folder if it works there, or nothing. Anybody may mount another folder at
+def _uses(process: str, folder: str, users: Collection[int], lock: str) -> str:
+    """Which file of a folder but the lock a process has open, or the folder if it works there, or nothing. Anybody may mount another folder at
     its path for own processes, so the file has to be the same, or a removed one that a process of these users has open."""
     for link in f"{process}/cwd", *(f"{process}/fd/{it}" for it in files.names_in(f"{process}/fd")):
         with contextlib.suppress(OSError):
             path = os.readlink(link)
-            if path == folder or path.startswith(f"{folder}/"):
+            if path == folder or path.startswith(f"{folder}/") and path != lock:
                 ours = files.look(path, follows=False)
                 if os.path.samestat(os.stat(link), ours) if ours else os.stat(process).st_uid in users:
                     return path

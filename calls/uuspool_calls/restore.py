@@ -32,6 +32,7 @@ _USAGE = "usage: uuspool-restore [-n NUMBER] COPY"
 _LAST = 4294967294  # number of a job
 _NO_LIMIT = 1 << 40  # bytes of a spool that is made, which may be as long as the site's limit lets it be
 _DISTANCE = 1_000_000  # from the greatest number that is known, if the spool that is there can't be read
+_FARTHEST = 1_000_000_000
 _LITTLE = 1_000  # from that, otherwise, because a crash may have taken the ends of the spool and of the log
 _SETTINGS = "restoring.toml"  # with which the program works on what is made
 _PRESENT, _ITS_COPY = "present", "copy"  # folders in which the program reads copies of both spools
@@ -65,7 +66,7 @@ def run(session: Session, words: Sequence[str]) -> int:
     found = find_from_anywhere(session)
     owner = _owner_of(found)
     session.processes.catch_stops()
-    with Place(found.folder, owner) as place, Source(path, found, place.seen.st_uid) as source:
+    with Place(found.folder, owner, os.path.basename(found.spool)) as place, Source(path, found, place.seen.st_uid) as source:
         restoration = Restoration(session, found, owner, place, source)
         restoration.make(int(least or 0))
     for fault in restoration.faults:
@@ -98,7 +99,7 @@ class Restoration:
 
     def make(self, least: int) -> None:
         """Puts it back, with a next number of so much at least, and prints what was done."""
-        self._place.expect_nobody()
+        self._place.wait_for_nobody(self._pause)
         room = self._place.begin()
         made = self._begun(room, INNER)
         self._source.put_spool(made)
@@ -120,6 +121,8 @@ class Restoration:
             with self._session.processes.finishing():
                 self._place.expect_nobody()
                 path = self._exchange(made)
+        if not self._is_same:
+            self._session.print("the spool that was there has another word than the copy, or none")
         if not said.has_mark:
             self._session.print("the log has no line of this copy, so jobs that were done since it was made wait again")
         self._tell(gone, anew, number, path)
@@ -367,6 +370,8 @@ def _number(least: int, copys: int, presents: int, greatest: int) -> int:
     known = max(copys, presents, greatest + 1)
     if 0 < least < known:
         raise Failure(USAGE, f"-n {least} is too small, because numbers up to {known - 1} may have been given: say {known} or more")
+    if least > known + _FARTHEST:
+        raise Failure(USAGE, f"-n {least} would use up the numbers, of which {known - 1} is the greatest known: say {known + _FARTHEST} or less")
     number = least or known + (_LITTLE if presents else _DISTANCE)
     if number > _LAST:
         raise Failure(LATER, f"no number above {known} is certainly new: say one by -n")

@@ -3,6 +3,7 @@ import contextlib
 import os
 import re
 import stat
+from collections.abc import Sequence
 
 from . import files, turn
 from .copies import Copier, Target
@@ -38,7 +39,8 @@ class Source:
         try:
             self._expect_own_site()
             self.word = self.text(f"{self.name}-word").strip()
-            self.mark = self.text(MARK).strip()
+            self.mark, *sizes = self.text(MARK).split() or [""]
+            self._expect_sizes(sizes)
             if not self.word:
                 raise Failure(LATER, f"{self.path}/spool has no file {self.name}-word, so neighbours would take its jobs for others: see man uuspool-trouble")
         except BaseException:
@@ -65,6 +67,14 @@ class Source:
             name = tomllib.loads(text).get("name")
             if name not in (None, self._settings.name):
                 raise Failure(LATER, f"{self.path} is a copy of another site, {name}: name a copy of {self._settings.name}")
+
+    def _expect_sizes(self, sizes: Sequence[str]) -> None:
+        """The files of the spool are as long as they were when they were copied. (A log that was cut off is an older spool.)"""
+        for end, size in zip(("", "-wal"), sizes):
+            seen = files.look(f"{self.name}{end}", self._spool, follows=False)
+            if seen is None or str(seen.st_size) != size:
+                its = f"has {seen.st_size} bytes" if seen else "is missing"
+                raise Failure(LATER, f"{self.path}/spool/{self.name}{end} {its}, and had {size} in the copy that was made: copy it again, or name another copy")
 
     def put_spool(self, target: Target) -> None:
         """Copies the spool's files."""
