@@ -14,7 +14,7 @@ from collections.abc import Callable, Collection, Mapping, Sequence
 
 from . import files, logged, options, restored, turn
 from .copies import Copier, Target
-from .errors import LATER, NOT_SET_UP, USAGE, Failure
+from .errors import LATER, NOT_SET_UP, USAGE, Failure, Stopped
 from .jobs import Job, Parcel
 from .journal import Journal
 from .pieces import Piece, name_of
@@ -94,6 +94,7 @@ class Restoration:
         self._session, self._settings, self._owner, self._place, self._source = session, found, owner, place, source
         self._pause = session.processes.pause
         self.faults: list[str] = []  # what couldn't be read or brought over, and why
+        self._others_next = 0  # the next number of the spool that is there, if it isn't the copy's
         self._is_same = False  # whether the spool that is there has the word of the copy's
         self._why = ""  # the program failed
 
@@ -118,18 +119,46 @@ class Restoration:
             made.put_text(restored.NAME, restored.text_of([*self._given_up(), (copy.next, number)]), self._place.seen)
             made.sync()
             self._session.processes.check()
-            with self._session.processes.finishing():
+            # (A stop that comes once it is put back ends nothing.)
+            with contextlib.suppress(Stopped), self._session.processes.finishing():
                 self._place.expect_nobody()
-                path = self._exchange(made)
-        if not self._is_same:
-            self._session.print("the spool that was there has another word than the copy, or none")
-        if not said.has_mark:
-            self._session.print("the log has no line of this copy, so jobs that were done since it was made wait again")
-        self._tell(gone, anew, number, path)
+                path = self._put_in_place(made, gone, anew, number)
         known = {job.number for job in copy.jobs} | said.gone.keys() | {it.lost.number for it in gone if it.lost}
-        for job in present.jobs:
-            if job.number not in known:
-                self._session.print(f"not in the copy: job {_shown(job)}")
+        try:
+            if not said.has_mark:
+                self._session.print("the log has no line of this copy, so jobs that were done since it was made wait again")
+            self._tell(gone, anew, number, path)
+            for job in present.jobs:
+                if job.number not in known:
+                    self._session.print(f"not in the copy: job {_shown(job)}")
+        except OSError as error:
+            self.faults.append(f"standard output can't be written, and lacks what was done: {error.strerror}")
+
+    def _put_in_place(self, made: Target, gone: Sequence[Gone], anew: Mapping[int, int], number: int) -> str:
+        """Exchanges the folders. Where the one that was there is then. The log says what was queued anew before anybody can work
+        with that, and at once that the copy was put back, whatever stops this."""
+        if self._is_same:
+            self._note_anew(gone, anew)
+        path = self._exchange(made)
+        which = f"{self._source.mark or '-'} {self._source.word} from {self._source.path}"
+        self._note("", user_name(self._place.seen.st_uid), "", logged.RESTORED, f"{which}: the next job gets {number} or a later number")
+        if not self._is_same:
+            self._note_anew(gone, anew)
+        for job, line, lost in gone:
+            if not lost:
+                self._note(job.system, job.user, job.number, "done-before", f"{line.how}: {job.what}")
+        return path
+
+    def _note_anew(self, gone: Sequence[Gone], anew: Mapping[int, int]) -> None:
+        for job, _, lost in gone:
+            if lost and job.number in anew:
+                self._note(_system_of(lost), job.user, anew[job.number], "done", " ".join(lost.line[1:]))
+                self._note(job.system, job.user, job.number, "done", f"kill {job.number}")
+                self._note(_system_of(lost), job.user, anew[job.number], "moved", f"from {job.system}, where it was job {job.number}")
+
+    def _note(self, system: str, user: str, job: int | str, how: str, words: str) -> None:
+        with acting_as(self._owner):
+            Journal(self._settings.log, self._settings.zone, self._session.say).note(system, user, job, how, words)
 
     def _said(self, jobs: Sequence[Job]) -> logged.Said:
         """What the log says of the jobs of the copy. A job that brought a piece of a file here isn't done, unless the file was
@@ -177,14 +206,20 @@ class Restoration:
                 target.put(f"{self._source.name}-wal", handle)
 
         try:
-            return self._known(room, _PRESENT, put) if self._is_same else Known(0, [])
+            known = self._known(room, _PRESENT, put)
         except OSError:
             return Known(0, [])
+        if self._is_same:
+            return known
+        self._others_next = known.next
+        return Known(0, [])
 
     def _given_up(self) -> list[restored.GivenUp]:
-        """The numbers that were given up before: in the past of the copy, and in that of the spool that is there, if it is the copy's."""
+        """The numbers that were given up before: in the past of the copy, and in that of the spool that is there, if it is the copy's.
+        Another spool gave the first ones, so neighbours may have heard that they don't come again."""
         texts = [self._source.text(restored.NAME), self._present_text(restored.NAME) if self._is_same else ""]
-        return [it for text in texts for it in restored.given_up_in(text)]
+        others = [(1, self._others_next)] if self._others_next > 1 else []
+        return [*others, *(it for text in texts for it in restored.given_up_in(text))]
 
     def _present_text(self, name: str) -> str:
         """What a file in the folder that is there says, or nothing if it can't be read."""
@@ -322,18 +357,9 @@ class Restoration:
     # ---- what is told
 
     def _tell(self, gone: Sequence[Gone], anew: Mapping[int, int], number: int, path: str) -> None:
-        """Says it on standard output and in the log."""
-        with acting_as(self._owner):
-            log = Journal(self._settings.log, self._settings.zone, self._session.say)
-            which = f"{self._source.mark or '-'} {self._source.word} from {self._source.path}"
-            log.note("", user_name(os.geteuid()), "", logged.RESTORED, f"{which}: the next job gets {number} or a later number")
-            for job, line, lost in gone:
-                if lost and job.number in anew:
-                    log.note(_system_of(lost), job.user, anew[job.number], "done", " ".join(lost.line[1:]))
-                    log.note(job.system, job.user, job.number, "done", f"kill {job.number}")
-                    log.note(_system_of(lost), job.user, anew[job.number], "moved", f"from {job.system}, where it was job {job.number}")
-                elif not lost:
-                    log.note(job.system, job.user, job.number, "done-before", f"{line.how}: {job.what}")
+        """Says it on standard output."""
+        if not self._is_same:
+            self._session.print("the spool that was there has another word than the copy, or none")
         for job, line, lost in gone:
             if not lost:
                 self._session.print(f"done before ({line.how}, {line.moment}): job {_shown(job)}")
