@@ -133,11 +133,13 @@ class Log(Folder):
     def test_what_cannot_be_read(self) -> None:
         self.put("log.3.gz", gzip.compress((HERE + line(1, 1, "kill 1") * 100).encode())[:-9])
         self.put("log.2.gz", "no gzip")
+        whole = gzip.compress(os.urandom(1000))
+        self.put("log.5.gz", whole[:20] + bytes(reversed(whole[20:])))
         os.mkfifo(f"{self.folder}/log.1")
         os.symlink(self.put("roots", line(1, 9, "kill 9")), f"{self.folder}/log.4")
         said = self.said()
         self.assertEqual([1], sorted(said.gone))
-        self.assertEqual(["log.4", "log.3.gz", "log.2.gz", "log.1"], [it.partition(":")[0].rpartition("/")[2] for it in said.faults])
+        self.assertEqual(["log.5.gz", "log.4", "log.3.gz", "log.2.gz", "log.1"], [it.partition(":")[0].rpartition("/")[2] for it in said.faults])
         self.assertEqual(1, len(logged.read("/nowhere/log", "", "w", "0a", [1]).faults))
 
     def test_a_file_of_holes_takes_no_memory(self) -> None:

@@ -7,6 +7,7 @@ counts, because a job that comes twice is better than none."""
 import contextlib
 import os
 import re
+import zlib
 from collections.abc import Iterable, Iterator, Mapping
 
 from . import turn
@@ -166,7 +167,7 @@ def _lines(path: str, owner: str, faults: list[str]) -> Iterator[list[bytes]]:
                     words = line.split(maxsplit=7)
                     if len(words) > 6 and words[5] in (b"done", b"delivered", *_COPIES) and len(words[4]) < 20:
                         yield words
-            except (OSError, EOFError, ValueError) as error:
+            except (OSError, EOFError, ValueError, zlib.error) as error:
                 faults.append(f"{file.name}: {error}")
 
 
