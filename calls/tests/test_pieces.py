@@ -373,8 +373,8 @@ class Letters(Refused):
         self.assertEqual("mysite a!ann 1 waits it is delivered, and a!ann cannot be told: /nowhere takes no letter", self.log[-1])
         os.remove(f"{self.folder}/public/a/in/x")
         job = self.spool.parcels[1].job
-        self.assertEqual([[], [1]], [deliver.due(self.folder, [job], clock.now() + it) for it in (590, 610)])  # (not in each round)
-        tries = records.Tries.read(f"{self.folder}/deliver", job, 0)
+        self.assertEqual([[], [1]], [deliver.due(self.site, [job], clock.now() + it) for it in (590, 610)])  # (not in each round)
+        tries = records.Tries.read(f"{self.folder}/deliver", "w1", job, 0)
         self.spool.fails = {}
         self.assertEqual(0, self.give(0, "send", "/x", "~/in/x", "-m", number=1, data=b"abc"))
         self.assertEqual((2, False), (len(self.letters()), os.path.exists(f"{self.folder}/public/a/in/x")))
@@ -389,11 +389,32 @@ class Letters(Refused):
         for _ in range(3):
             with self.assertRaisesRegex(Failure, "job 1 is delivered, and that cannot be noted: uuspool: spool: store"):
                 self.deliverer.deliver(1)
-            self.assertEqual([1], deliver.due(self.folder, [self.spool.parcels[1].job], clock.now()))
+            self.assertEqual([1], deliver.due(self.site, [self.spool.parcels[1].job], clock.now()))
+        for shown in "B 2026-11-28 11:00:00", "A 2026-11-28 11:00:00":  # (another rule of the site's clock, and another grade)
+            self.spool.parcels[1] = parcel(f"1 mysite a!ann {shown} 5 exec rmail joe")
+            self.assertRaises(Failure, self.deliverer.deliver, 1)
         self.spool.fails = {}
         self.assertEqual(0, self.deliverer.deliver(1))
         self.assertEqual((1, "mysite a!ann 1 delivered exec rmail joe"), (len(self.bytes_of("ran").splitlines()), self.log[-1]))
         self.assertFalse(os.path.exists(f"{self.folder}/deliver/1"))
+
+    def test_a_job_has_one_name_whatever_the_sites_clock_shows(self) -> None:
+        self.put("busy")
+        for hour in 10, 11:
+            self.spool.parcels[1] = parcel(f"1 mysite a!ann B 2026-11-28 {hour}:00:00 5 exec rmail joe")
+            self.assertEqual(0, self.deliverer.deliver(1))
+        self.assertEqual(b"mysite!1!2026-11-28.10:00:00 joe\n" * 2, self.bytes_of("ran"))
+
+    def test_a_file_that_came_is_known_whatever_the_sites_clock_shows(self) -> None:
+        about = pieces.About(Piece(SUM, 1, 1, "", 0, ("send", "a", "b")), "a!ann", came="mysite!12!2026-11-28.10:00:00")
+        names = "mysite!12!2026-11-28.11:00:00", "mysite!2!2026-11-28.10:00:00", "duke!12!2026-11-28.10:00:00", ""
+        self.assertEqual([True, False, False, False], [about.came_with(it) for it in names])
+        for hour in 10, 11:
+            self.spool.fails["done"] = SpoolError(3, "uuspool: spool: store")
+            words = " ".join((COMMAND, hashlib.sha256(b"abc").hexdigest(), "3", "0", "~/in/x"))
+            self.spool.parcels[1] = parcel(f"1 mysite a!ann B 2026-11-28 {hour}:00:00 3 exec {words}", b"abc")
+            self.assertRaises(Failure, self.deliverer.deliver, 1)
+        self.assertEqual(["x"], os.listdir(f"{self.folder}/public/a/in"))
 
     def test_wishes(self) -> None:
         self.assertEqual(Wishes(True, "bob"), Wishes.read(["-m", "-nbob"]))

@@ -87,7 +87,7 @@ def _round(site: Site, deliverer: "Deliverer", lock: files.Lock) -> int:
     with spool_needed(f"the spool cannot be asked what waits for {site.own}"):
         waiting = site.spool.waiting(site.own)
     _clean(site, waiting)
-    ended = _deliver_all(site, deliverer, due(site.folder, waiting, clock.now()), lock)
+    ended = _deliver_all(site, deliverer, due(site, waiting, clock.now()), lock)
     for number, status in ended:
         if status > _KILLED:
             deliverer.note_killed(number, status - _KILLED)
@@ -143,11 +143,11 @@ def _delivery(session: Session, deliverer: "Deliverer", number: int) -> Child:
     return Child(work)
 
 
-def due(folder: str, waiting: Sequence[Job], now: int) -> list[int]:
+def due(site: Site, waiting: Sequence[Job], now: int) -> list[int]:
     """The jobs to try now. Those that failed before come last, because they may take long."""
-    new, again = [], []
+    new, again, word = [], [], site.word()
     for job in waiting:
-        tries = records.Tries.read(f"{folder}/deliver", job, now)
+        tries = records.Tries.read(f"{site.folder}/deliver", word, job, now)
         if not tries.failed:
             new.append(job)
         elif not tries.is_later(now):
@@ -220,12 +220,12 @@ class Deliverer:
 
     def _try(self, parcel: Parcel) -> int:
         now = clock.now()
-        tries = records.Tries.read(self._folder, parcel.job, now)
+        tries = records.Tries.read(self._folder, self._site.word(), parcel.job, now)
         if tries.came:
             return self._finish(parcel.job, Outcome(tries.came), tries, now)
         try:
             with files.memory_file(parcel.data) as content:
-                outcome = self._hand_over(self._delivered(parcel.job, content), parcel.job)
+                outcome = self._hand_over(self._delivered(tries.of(parcel.job), content), parcel.job)
         except Refusal as refusal:
             return self.give_up(parcel, str(refusal))
         except Delay as delay:
@@ -242,7 +242,7 @@ class Deliverer:
             parcel = self._site.spool.show(number) if lock.take() and lock.is_current() else None
             if parcel:
                 now = clock.now()
-                tries = records.Tries.read(self._folder, parcel.job, now)
+                tries = records.Tries.read(self._folder, self._site.word(), parcel.job, now)
                 self._fail(parcel, tries, f"its delivery at {self._own} was killed by signal {signal}", now)
 
     def _hand_over(self, delivered: Delivered, job: Job) -> Outcome:

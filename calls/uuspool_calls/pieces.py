@@ -153,6 +153,10 @@ class About(NamedTuple):
         except (KeyError, TypeError, ValueError, IndexError):
             return None
 
+    def came_with(self, job: str) -> bool:
+        """Whether it was delivered with the job of this name. (What the site's clock shows of the job may have changed.)"""
+        return self.came == job or self.came.rpartition("!")[0] == job.rpartition("!")[0] != ""
+
     def write(self, folder: str, name: str = _ABOUT) -> None:
         """Keeps it."""
         files.write_record(f"{folder}/{name}", {name: value for name, value in self._asdict().items() if value})
@@ -328,7 +332,7 @@ class Pieces:
                 return File(path, about, is_refused=True)
         folder = f"{self._folder}/{name}"
         about = About.read(folder)
-        if about and not piece.mark and about.came not in ("", job):
+        if about and not piece.mark and about.came and not about.came_with(job):
             files.remove_folder(folder)  # (it was delivered before a stop, and this is a new one)
             about = None
         if about is None and not piece.mark:
