@@ -196,20 +196,19 @@ class Clean(Folder):
 
 
 class Jumps(Folder):
-    def test_one_round_with_a_wrong_clock_removes_nothing(self) -> None:
-        here, now, names = site(self.folder, StandIn()), time.time(), ["1", "2"]
-        for name in names:
+    def test_a_round_with_a_wrong_clock_removes_nothing(self) -> None:
+        here, now, names = site(self.folder, StandIn()), time.time(), ["1", "2", "ab12"]
+        for name in names[:2]:
             self.put(f"refused/{name}", b"no\n" + LINE.encode() + b"\nhello")
-        self.put("refused/.looked")
-        for years, left in (10, names), (0, names), (10, names):
-            with mock.patch("time.time", return_value=now + years * 365 * 86400):
+        self.put("pieces/unc/ab12/0", b"x")
+        for name in "refused/1", "pieces/unc/ab12":  # (written while the clock was behind)
+            os.utime(f"{self.folder}/{name}", (1, 1))
+        for hours in 0, 2, 29 * 24, 31 * 24, 87600, 87602, -87600, 3:
+            with mock.patch("time.time", return_value=now + hours * 3600):
                 deliver._clean(here, [])
-            os.utime(f"{self.folder}/refused/.looked", (now + years * 365 * 86400,) * 2)
-            self.assertEqual(left, sorted(it for it in os.listdir(f"{self.folder}/refused") if it[0] != "."))
-        os.utime(f"{self.folder}/refused/1", (1, 1))
-        os.utime(f"{self.folder}/refused/.looked", (now - 7200,) * 2)
-        deliver._clean(here, [])
-        self.assertEqual(["2"], sorted(it for it in os.listdir(f"{self.folder}/refused") if it[0] != "."))
+            os.utime(f"{self.folder}/refused/.looked", (now + hours * 3600,) * 2)
+            left = [*os.listdir(f"{self.folder}/refused"), *os.listdir(f"{self.folder}/pieces/unc")]
+            self.assertEqual(names, sorted(it for it in left if it[0] != "."), hours)
 
 
 class Works(Folder):

@@ -4,7 +4,6 @@ import hashlib
 import json
 import os
 import shutil
-import time
 import unittest
 from unittest import mock
 
@@ -15,7 +14,7 @@ from uuspool_calls.files import memory_file
 from uuspool_calls.jobs import Delivered, Job
 from uuspool_calls.pieces import COMMAND, Piece
 
-from .standins import LINE, Folder, StandIn, parcel, site
+from .standins import LINE, Folder, StandIn, aged, parcel, site
 
 SUM = "0" * 64
 LENGTH = 1000
@@ -307,11 +306,8 @@ class Refused(Arrivals):
         self.give(0)
         self.give(2000)
         self.give(0, "exec", "rmail", "joe", number=9)
-        folders = [f"{self.folder}/pieces/a/{it}" for it in os.listdir(f"{self.folder}/pieces/a") if not it.endswith(".lock")]
         for days in 29, 31:
-            for path in folders:
-                os.utime(path, (time.time() - days * 86400,) * 2)
-            deliver._refuse_unfinished(self.site)
+            deliver._refuse_unfinished(self.site, aged(days))
             self.assertEqual(2 if days < 30 else 0, len(self.kept()))
         self.assertIn("mysite a!ann  refused-for-good send /x ~/in/x: 2 of 3 pieces came, and no other one for 30 days", self.log)
         self.assertEqual(0, refusals.tell(self.site))
@@ -323,23 +319,28 @@ class Refused(Arrivals):
             return self.delivery.deliver(self.job(words_of(DATA, at), content)).how
 
     def test_a_newer_piece_begins_the_time_anew(self) -> None:
-        self.give(0)
-        [folder] = [it for it in os.listdir(f"{self.folder}/pieces/a") if not it.endswith(".lock")]
-        for at in 1000, 0:
-            os.utime(f"{self.folder}/pieces/a/{folder}", (0, 0))
+        for at in 0, 1000, 0:
             self.give(at)
-            deliver._refuse_unfinished(self.site)
+            self.look(20)
             self.assertEqual(1, len(self.kept()))
+        self.look(9)
+        self.assertEqual(1, len(self.kept()))
+        self.look(1)
+        self.assertEqual(0, len(self.kept()))
+
+    def look(self, days: float) -> None:
+        """Two looks, with so many days between them."""
+        for running in 5 * 86400.0, (5 + days) * 86400:
+            with mock.patch("uuspool_calls.clock.running", return_value=running), mock.patch("uuspool_calls.files.is_fresh", return_value=False):
+                deliver._clean(self.site, [])
 
     def test_what_a_stop_left_is_removed(self) -> None:
         for at in 0, 1000, 2000:
             self.take(DATA, at)
         self.put("pieces/a/odd/about", "{")
         self.put("pieces/a/gone.lock")
-        for name in os.listdir(f"{self.folder}/pieces/a"):
-            os.utime(f"{self.folder}/pieces/a/{name}", (0, 0))
-        deliver._refuse_unfinished(self.site)
-        deliver._refuse_unfinished(self.site)
+        deliver._refuse_unfinished(self.site, aged(30))
+        deliver._refuse_unfinished(self.site, aged(30))
         self.assertEqual(([], []), ([it for it in os.listdir(f"{self.folder}/pieces/a") if not it.endswith(".lock")], os.listdir(f"{self.folder}/refused")))
 
     def test_the_newest_file_is_kept_however_large(self) -> None:
@@ -353,8 +354,7 @@ class Refused(Arrivals):
         refusals.forget_excess(self.site)
         self.assertEqual(1, len([it for it in os.listdir(f"{self.folder}/refused") if it[0] != "."]))
         self.session.environment["UUSPOOL_REFUSED_DAYS"] = "0"
-        os.utime(f"{self.folder}/refused/{[it for it in os.listdir(f'{self.folder}/refused') if it[0] != '.'][0]}", (0, 0))
-        refusals.forget_old(self.site)
+        refusals.forget_old(self.site, aged(0))
         self.assertEqual([".lock"], os.listdir(f"{self.folder}/refused"))
 
 
@@ -485,8 +485,7 @@ class Older(Arrivals):
     def test_those_of_which_no_more_comes(self) -> None:
         self.put(f"pieces/a/{SUM}-1-2/1", "x")
         self.put(f"pieces/a/{SUM}-1-2/about", json.dumps({"user": "a!ann", "to": "~/x", "size": 2_500_000}))
-        os.utime(f"{self.folder}/pieces/a/{SUM}-1-2", (0, 0))
-        deliver._refuse_unfinished(self.site)
+        deliver._refuse_unfinished(self.site, aged(30))
         self.assertEqual(["mysite a!ann  refused-for-good send ~/x ~/x: 1 of 3 pieces came, and no other one for 30 days"], self.site.log)
         self.assertEqual(0, refusals.tell(self.site))
 

@@ -95,9 +95,9 @@ def _round(site: Site, deliverer: "Deliverer", lock: files.Lock) -> int:
     return LATER if any(status for _, status in ended) else told
 
 
-def _refuse_unfinished(site: Site) -> None:
+def _refuse_unfinished(site: Site, is_old: pieces.IsOld) -> None:
     """Files that never became whole are refused."""
-    for file in pieces.unfinished(f"{site.folder}/pieces"):
+    for file in pieces.unfinished(f"{site.folder}/pieces", is_old):
         about, piece = file.about, file.about.piece
         why = f"{file.count()} of {piece.total} pieces came, and no other one for {pieces.DAYS} days"
         try:
@@ -176,9 +176,9 @@ def _clean(site: Site, waiting: Sequence[Job]) -> None:
             with contextlib.suppress(OSError):
                 if os.stat(f"{folder}/{name}").st_mtime < before:
                     _forget(folder, number)
-    if refusals.is_time_to_look(site):
-        _refuse_unfinished(site)
-        refusals.forget_old(site)
+    if is_old := refusals.look(site):
+        _refuse_unfinished(site, is_old)
+        refusals.forget_old(site, is_old)
     if os.path.exists(f"{folder}/keys") and not refusals.has_untold(site):
         with contextlib.suppress(SpoolError):
             if jobs := site.spool.waiting():
