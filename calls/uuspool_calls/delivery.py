@@ -150,7 +150,7 @@ class Delivery:
     def _words(self, job: Delivered) -> list[str]:
         """The words of a command. What comes for this site's own name and a path is for that path."""
         name, *words = job.words
-        return [forward.behind(self._own, it) for it in words] if job.sender and name == MAIL else words
+        return [forward.behind(f"{self._session.etc}/forward", self._own, it) for it in words] if job.sender and name == MAIL else words
 
     def _command(self, job: Delivered) -> commands.Command:
         name, words = job.words[0], self._words(job)
