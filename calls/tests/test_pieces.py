@@ -9,7 +9,7 @@ from unittest import mock
 
 from uuspool_calls import clock, deliver, files, outgoing, pieces, records, refusals
 from uuspool_calls.delivery import Delivery, Outcome, Wishes
-from uuspool_calls.errors import Delay, Failure, Refusal, SpoolError
+from uuspool_calls.errors import Delay, Failure, Refusal, SpoolError, Stopped
 from uuspool_calls.files import memory_file
 from uuspool_calls.jobs import Delivered, Job
 from uuspool_calls.pieces import COMMAND, Piece
@@ -463,6 +463,19 @@ class HandedOn(Refused):
                 self.assertEqual(0, self.deliverer.deliver(1))
         asked = [it for it in self.spool.asked if it[0] == "exec"]
         self.assertEqual((3, 1), (len(asked), len({it[5] for it in asked})))
+        self.assertFalse(os.path.exists(f"{self.folder}/deliver/1"))
+
+    def test_mail_that_is_queued_again_after_a_kill_is_the_same_file(self) -> None:
+        """(The kill comes behind the last piece, and then another rule of the site's clock.)"""
+        self.put("etc/forward", "a unc\n")
+        text = b"Subject: x\n\n" + bytes((1 << 20) - 20)
+        for hour in 10, 11:
+            self.spool.parcels[1] = parcel(f"1 mysite a!ann B 2026-11-28 {hour}:00:00 {len(text)} exec rmail unc!joe", text)
+            with mock.patch.object(self.deliverer, "_finish", side_effect=Stopped):
+                self.assertRaises(Stopped, self.deliverer.deliver, 1)
+            self.assertEqual([1], deliver.due(self.site, [self.spool.parcels[1].job], clock.now()))
+        asked = [it for it in self.spool.asked if it[0] == "exec"]
+        self.assertEqual((4, 1), (len(asked), len({it[5] for it in asked})))
 
 
 class Older(Arrivals):

@@ -288,10 +288,11 @@ class Deliverer:
 
     def _queue(self, system: str, job: Delivered, why: str) -> None:
         """Queues for a neighbour what a job brought or asked for, once."""
-        key = f"{self._own}!{job.name.split('!')[1]}!{why}"
+        number = int(job.name.split("!")[1])
+        key = f"{self._own}!{number}!{why}"
         what = outgoing.Parcelled(system, job.user, job.grade, key, outgoing.mark_of(job.name), (job.kind, *job.words))
         try:
-            outgoing.queue(self._site, what, job.content)
+            outgoing.queue(self._site, what, job.content, partial(self._note_begun, number))
         except SpoolError as error:
             # (Before a stop it was queued, and the file has changed since.)
             if error.status == 1 and str(error).endswith("Differs"):
@@ -299,6 +300,13 @@ class Deliverer:
             if error.is_final:
                 raise Refusal(f"{job.words[0]} cannot be sent from {self._own}: {error}") from None
             raise Delay(f"{job.words[0]} cannot be sent from {self._own} now: {error}") from None
+
+    def _note_begun(self, number: int) -> None:
+        """Pieces have the moment of their job in their mark, and in their bytes if they are mail. So it is noted, because after a
+        stop the same pieces have to be queued."""
+        if parcel := self._site.spool.show(number):
+            with self._site.writing("deliver"):
+                records.Tries.read(self._folder, self._site.word(), parcel.job, clock.now()).write(self._folder, number)
 
     def give_up(self, parcel: Parcel, why: str) -> int:
         """Refuses a job, and if it is a piece, its file as far as it came. If that can't be now it waits, and the jobs
