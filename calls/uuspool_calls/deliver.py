@@ -87,7 +87,7 @@ def _round(site: Site, deliverer: "Deliverer", lock: files.Lock) -> int:
     with spool_needed(f"the spool cannot be asked what waits for {site.own}"):
         waiting = site.spool.waiting(site.own)
     _clean(site, waiting)
-    ended = _deliver_all(site, deliverer, due(site.folder, waiting, clock.now()), lock)
+    ended = _deliver_all(site, deliverer, due(site, waiting, clock.now()), lock)
     for number, status in ended:
         if status > _KILLED:
             deliverer.note_killed(number, status - _KILLED)
@@ -95,9 +95,9 @@ def _round(site: Site, deliverer: "Deliverer", lock: files.Lock) -> int:
     return LATER if any(status for _, status in ended) else told
 
 
-def _refuse_unfinished(site: Site) -> None:
+def _refuse_unfinished(site: Site, is_old: pieces.IsOld) -> None:
     """Files that never became whole are refused."""
-    for file in pieces.unfinished(f"{site.folder}/pieces"):
+    for file in pieces.unfinished(f"{site.folder}/pieces", is_old):
         about, piece = file.about, file.about.piece
         why = f"{file.count()} of {piece.total} pieces came, and no other one for {pieces.DAYS} days"
         try:
@@ -143,11 +143,11 @@ def _delivery(session: Session, deliverer: "Deliverer", number: int) -> Child:
     return Child(work)
 
 
-def due(folder: str, waiting: Sequence[Job], now: int) -> list[int]:
+def due(site: Site, waiting: Sequence[Job], now: int) -> list[int]:
     """The jobs to try now. Those that failed before come last, because they may take long."""
-    new, again = [], []
+    new, again, word = [], [], site.word()
     for job in waiting:
-        tries = records.Tries.read(f"{folder}/deliver", job, now)
+        tries = records.Tries.read(f"{site.folder}/deliver", word, job, now)
         if not tries.failed:
             new.append(job)
         elif not tries.is_later(now):
@@ -176,9 +176,9 @@ def _clean(site: Site, waiting: Sequence[Job]) -> None:
             with contextlib.suppress(OSError):
                 if os.stat(f"{folder}/{name}").st_mtime < before:
                     _forget(folder, number)
-    if refusals.is_time_to_look(site):
-        _refuse_unfinished(site)
-        refusals.forget_old(site)
+    if is_old := refusals.look(site):
+        _refuse_unfinished(site, is_old)
+        refusals.forget_old(site, is_old)
     if os.path.exists(f"{folder}/keys") and not refusals.has_untold(site):
         with contextlib.suppress(SpoolError):
             if jobs := site.spool.waiting():
@@ -220,12 +220,12 @@ class Deliverer:
 
     def _try(self, parcel: Parcel) -> int:
         now = clock.now()
-        tries = records.Tries.read(self._folder, parcel.job, now)
+        tries = records.Tries.read(self._folder, self._site.word(), parcel.job, now)
         if tries.came:
             return self._finish(parcel.job, Outcome(tries.came), tries, now)
         try:
             with files.memory_file(parcel.data) as content:
-                outcome = self._hand_over(self._delivered(parcel.job, content), parcel.job)
+                outcome = self._hand_over(self._delivered(tries.of(parcel.job), content), parcel.job)
         except Refusal as refusal:
             return self.give_up(parcel, str(refusal))
         except Delay as delay:
@@ -242,7 +242,7 @@ class Deliverer:
             parcel = self._site.spool.show(number) if lock.take() and lock.is_current() else None
             if parcel:
                 now = clock.now()
-                tries = records.Tries.read(self._folder, parcel.job, now)
+                tries = records.Tries.read(self._folder, self._site.word(), parcel.job, now)
                 self._fail(parcel, tries, f"its delivery at {self._own} was killed by signal {signal}", now)
 
     def _hand_over(self, delivered: Delivered, job: Job) -> Outcome:
@@ -288,10 +288,11 @@ class Deliverer:
 
     def _queue(self, system: str, job: Delivered, why: str) -> None:
         """Queues for a neighbour what a job brought or asked for, once."""
-        key = f"{self._own}!{job.name.split('!')[1]}!{why}"
+        number = int(job.name.split("!")[1])
+        key = f"{self._own}!{number}!{why}"
         what = outgoing.Parcelled(system, job.user, job.grade, key, outgoing.mark_of(job.name), (job.kind, *job.words))
         try:
-            outgoing.queue(self._site, what, job.content)
+            outgoing.queue(self._site, what, job.content, partial(self._note_begun, number))
         except SpoolError as error:
             # (Before a stop it was queued, and the file has changed since.)
             if error.status == 1 and str(error).endswith("Differs"):
@@ -299,6 +300,13 @@ class Deliverer:
             if error.is_final:
                 raise Refusal(f"{job.words[0]} cannot be sent from {self._own}: {error}") from None
             raise Delay(f"{job.words[0]} cannot be sent from {self._own} now: {error}") from None
+
+    def _note_begun(self, number: int) -> None:
+        """Pieces have the moment of their job in their mark, and in their bytes if they are mail. So it is noted, because after a
+        stop the same pieces have to be queued."""
+        if parcel := self._site.spool.show(number):
+            with self._site.writing("deliver"):
+                records.Tries.read(self._folder, self._site.word(), parcel.job, clock.now()).write(self._folder, number)
 
     def give_up(self, parcel: Parcel, why: str) -> int:
         """Refuses a job, and if it is a piece, its file as far as it came. If that can't be now it waits, and the jobs
