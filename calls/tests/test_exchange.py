@@ -278,12 +278,24 @@ class Refusing(Folder):
 
     def test_who_takes_none_of_its_letters_gets_no_more(self) -> None:
         letters, others = ([parcel(LINE.replace("7", str(at), 1).replace("ann", user)) for at in range(first, first + 1000)] for first, user in ((1, "MAILER-DAEMON"), (2000, "ann")))
-        for waiting, count in (letters, 0), (letters[1:], 1), (letters[1:] + others, 1):
+        bounces = [parcel(LINE.replace("7", str(at), 1).replace("ann", "MAILER-DAEMON")) for at in range(4000, 5000)]  # (of a mailer)
+        self.put("refused/.letters-duke.numbers", "".join(f"{it.job.number}\n" for it in letters))
+        for waiting, count in (letters, 0), (letters[1:], 1), (letters[1:] + others, 1), (bounces + letters[1:], 1), (bounces + letters, 0):
             self.spool.parcels = {it.job.number: it for it in waiting}
             self.spool.asked.clear()
             self.site.log.clear()
             Mailroom(self.site).send(Letter("x", "x", "x"), parcel(LINE.replace("ann", "duke!ann")).job, b"")
             self.assertEqual((count, 1 - count), (len(self.spool.asked), len(self.site.log)))
+
+    def test_the_numbers_of_letters_that_wait_are_known(self) -> None:
+        room, path = Mailroom(self.site), "refused/.letters-duke.numbers"
+        for number in 7, 123456:
+            with mock.patch.object(self.spool, "ask_once", return_value=f"job {number}\n".encode()):
+                room.send(Letter("x", "x", "x"), parcel(LINE.replace("ann", "duke!ann")).job, b"")
+        self.assertEqual(b"7\n123456\n", self.bytes_of(path))
+        self.put(path, "".join(f"{number}\n" for number in range(20000)))
+        room._note("duke", "job 20000\n")
+        self.assertEqual((b"20000", True), (self.bytes_of(path).split()[-1], 2000 < len(self.bytes_of(path).split()) < 20000))
 
     def test_what_a_sender_may_keep_here(self) -> None:
         for number, user in (1, "unc!x"), (2, "unc!x"), (3, "duke!y"), (4, "ann"):
