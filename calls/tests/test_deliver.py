@@ -5,8 +5,8 @@ import time
 from functools import partial
 from unittest import mock
 
-from uuspool_calls import cli, commands, deliver, executions, records, works
-from uuspool_calls.errors import Delay, Refusal
+from uuspool_calls import cli, commands, deliver, executions, records, refuse, works
+from uuspool_calls.errors import Delay, Failure, Refusal
 from uuspool_calls.files import Lock, memory_file
 from uuspool_calls.jobs import Job
 from uuspool_calls.processes import Child, Children, Processes, Program
@@ -316,6 +316,23 @@ class Ends(Folder):
         for name in "night", "expire":
             with open(f"{top}/uuspool-{name}.service", encoding="utf-8") as file:
                 self.assertIn("KillMode=mixed\n", file.read().splitlines(keepends=True), name)
+
+
+class Refused(Folder):
+    def test_what_is_being_delivered_is_not_refused(self) -> None:
+        spool = StandIn()
+        spool.parcels = {number: parcel(LINE.replace("7 duke", f"{number} {system}")) for number, system in ((7, "mysite"), (8, "duke"))}
+        its = site(self.folder, spool)
+        with its.lock("deliver/7.lock") as mine, its.lock("deliver/8.lock") as other:
+            mine.take(), other.take()
+            with self.assertRaisesRegex(Failure, "^job 7 is being delivered"):
+                refuse._refuse(its, spool.parcels[7], "why")
+            self.assertTrue(refuse._refuse(its, spool.parcels[8], "why"))
+        its7 = spool.parcels[7]
+        self.assertTrue(refuse._refuse(its, its7, "why"))
+        spool.parcels.clear()
+        with self.assertRaisesRegex(Failure, "^there is no job 7"):
+            refuse._refuse(its, its7, "why")
 
 
 class Senders(Folder):

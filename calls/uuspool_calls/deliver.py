@@ -30,7 +30,7 @@ from .texts import is_number
 _USAGE = "usage: uuspool-deliver [NUMBER..]"
 _KILLED = 128  # the least status of a process that a signal ended
 _NEW = 3600  # seconds in which a record's job may have just come
-_LOCK, _WORKS = ".lock", ".works"  # of a job, behind its number
+LOCK, _WORKS = ".lock", ".works"  # of a job, behind its number
 _MARGIN = 15  # seconds until a command that is ended has ended
 _TAKING = 30  # seconds for which a round waits for what neighbours brought
 _ROUND = 300  # seconds after which a round begins no more deliveries
@@ -188,9 +188,9 @@ def _clean(site: Site, waiting: Sequence[Job]) -> None:
 
 def _forget(folder: str, number: str) -> None:
     """Removes what is kept of a job, unless a process delivers it: the clock may have jumped since that began."""
-    with files.Lock(f"{folder}/{number}{_LOCK}") as lock:
+    with files.Lock(f"{folder}/{number}{LOCK}") as lock:
         if lock.take() and lock.is_current():
-            for end in "", _WORKS, _LOCK:
+            for end in "", _WORKS, LOCK:
                 files.remove(f"{folder}/{number}{end}")
 
 
@@ -210,7 +210,7 @@ class Deliverer:
     def deliver(self, number: int) -> int:
         """Tries a job, unless it is gone, or another process delivers it. One that hangs delays no
         round."""
-        with self._site.lock(f"deliver/{number}{_LOCK}") as lock:
+        with self._site.lock(f"deliver/{number}{LOCK}") as lock:
             parcel = self._site.spool.show(number) if lock.take() and lock.is_current() else None
             if parcel is None:
                 return 0
@@ -238,7 +238,7 @@ class Deliverer:
 
     def note_killed(self, number: int, signal: int) -> None:
         """A delivery that was killed, perhaps since memory ran out, has failed for now."""
-        with self._site.lock(f"deliver/{number}{_LOCK}") as lock:
+        with self._site.lock(f"deliver/{number}{LOCK}") as lock:
             parcel = self._site.spool.show(number) if lock.take() and lock.is_current() else None
             if parcel:
                 now = clock.now()
@@ -259,7 +259,7 @@ class Deliverer:
         """A file that the sender asked for goes back as a job of who asked, or in pieces."""
         if not job.sender or len(words) < 2:
             raise Refusal(f"a request for {self._own} itself, or without two names, asks for nothing")
-        with self._delivery.public_of(job.sender).opened(words[0]) as content, self._site.lock(f"deliver/{job.sender}.fetches{_LOCK}") as lock:
+        with self._delivery.public_of(job.sender).opened(words[0]) as content, self._site.lock(f"deliver/{job.sender}.fetches{LOCK}") as lock:
             # (Otherwise many find the same room.)
             if not lock.wait(_PATIENCE, self._site.session.processes.pause):
                 raise Delay(f"another file is being queued for {job.sender}, so it gets {words[0]} later")

@@ -344,7 +344,7 @@ class Restoration:
 
     def _exchange(self, made: Target) -> str:
         """Where the folder that was there is then. These files stay the same. So a line that waits with the lock, and has the path of
-        the new spool, keeps its turn, and no line of the log is lost. (No link is followed, and a name in the folder of the
+        the new spool, keeps its turn or fails, and no line of the log is lost. (No link is followed, and a name in the folder of the
         spool's user becomes another one there.)"""
         moved = self._files()
         for name in moved:
