@@ -94,7 +94,7 @@ class Restoration:
         self._session, self._settings, self._owner, self._place, self._source = session, found, owner, place, source
         self._pause = session.processes.pause
         self.faults: list[str] = []  # what couldn't be read or brought over, and why
-        self._others_next = 0  # the next number of the spool that is there, if it isn't the copy's
+        self._other = Known(0, [])  # of the spool that is there, if it isn't the copy's
         self._is_same = False  # whether the spool that is there has the word of the copy's
         self._why = ""  # the program failed
 
@@ -128,9 +128,8 @@ class Restoration:
             if not said.has_mark:
                 self._session.print("the log has no line of this copy, so jobs that were done since it was made wait again")
             self._tell(gone, anew, number, path)
-            for job in present.jobs:
-                if job.number not in known:
-                    self._session.print(f"not in the copy: job {_shown(job)}")
+            for job in *(it for it in present.jobs if it.number not in known), *self._other.jobs:
+                self._session.print(f"not in the copy: job {_shown(job)}")
         except OSError as error:
             self.faults.append(f"standard output can't be written, and lacks what was done: {error.strerror}")
 
@@ -211,14 +210,14 @@ class Restoration:
             return Known(0, [])
         if self._is_same:
             return known
-        self._others_next = known.next
+        self._other = known
         return Known(0, [])
 
     def _given_up(self) -> list[restored.GivenUp]:
         """The numbers that were given up before: in the past of the copy, and in that of the spool that is there, if it is the copy's.
         Another spool gave the first ones, so neighbours may have heard that they don't come again."""
         texts = [self._source.text(restored.NAME), self._present_text(restored.NAME) if self._is_same else ""]
-        others = [(1, self._others_next)] if self._others_next > 1 else []
+        others = [(1, self._other.next)] if self._other.next > 1 else []
         return [*others, *(it for text in texts for it in restored.given_up_in(text))]
 
     def _present_text(self, name: str) -> str:
