@@ -3,6 +3,7 @@ import fcntl
 import gzip
 import os
 import pwd
+import random
 import stat
 import subprocess
 from collections.abc import Iterable
@@ -159,6 +160,72 @@ class Log(Folder):
         os.symlink(f"{self.folder}/roots", f"{self.folder}/s/log")
         said = logged.read(f"{self.folder}/s/log", pwd.getpwuid(1).pw_name, "w", "0a", [9])
         self.assertEqual(({}, 1), (said.gone, len(said.faults)))
+
+
+class History:
+    """Jobs that are queued, moved, handed on, done and killed, and copies that are made and put back, in any order. Each job has a
+    thing, which it keeps as it moves. The log says what the commands say there."""
+
+    def __init__(self, seed: int, path: str) -> None:
+        self.random, self.path = random.Random(seed), path
+        self.jobs: dict[int, int] = {}  # the thing of each job that waits
+        self.ended: set[int] = set()  # things that came to a neighbour, or were killed
+        self.copies: list[tuple[str, dict[int, int]]] = []
+        self.next, self.things = 1, 0
+        self.log: list[str] = []
+
+    def step(self) -> None:
+        does = self.random.choice(["queue", "queue", "move", "move", "hand_on", "end", "end", "copy", "put_back"])
+        if does in ("queue", "copy") or (self.copies if does == "put_back" else self.jobs):
+            getattr(self, does)()
+
+    def queue(self, line: str = "send -gN -- duke a b", thing: int | None = None) -> None:
+        self.things += thing is None
+        self.jobs[self.next] = self.things if thing is None else thing
+        self.log.append(globals()["line"](1, self.next, line))
+        self.next += 1
+
+    def move(self, how: str = "again", end: str = "kill") -> None:
+        number = self.random.choice(sorted(self.jobs))
+        self.queue(f"send -gN --once=mysite!{number}!{how} -- duke a b", self.jobs.pop(number))
+        self.log.append(line(1, number, end))
+
+    def hand_on(self) -> None:
+        self.move("onward", "done mysite")
+
+    def end(self) -> None:
+        number = self.random.choice(sorted(self.jobs))
+        self.ended.add(self.jobs.pop(number))
+        self.log.append(line(1, number, self.random.choice(["settle duke", "kill", "done duke"])))
+
+    def copy(self) -> None:
+        self.copies.append((f"{len(self.copies):04}", dict(self.jobs)))
+        self.log.append(about("copied", self.copies[-1][0], "w"))
+
+    def put_back(self) -> None:
+        """Does what `Restoration` does with what the log says."""
+        mark, jobs = self.random.choice(self.copies)
+        with open(self.path, "w", encoding="ascii") as file:
+            file.writelines(self.log)
+        said = logged.read(self.path, "", "w", mark, jobs)
+        self.jobs = {number: thing for number, thing in jobs.items() if number not in said.gone or number in said.lost and not said.lost[number].line}
+        for number in said.gone.keys() & said.lost.keys() - self.jobs.keys():
+            self.queue(" ".join(said.lost[number].line[1:]), jobs[number])
+        self.log.append(about("restored", mark, "w"))
+        self.expect(sorted(set(jobs.values()) - self.ended))
+
+    def expect(self, things: list[int]) -> None:
+        """Just these wait, each once."""
+        if sorted(self.jobs.values()) != things:
+            raise AssertionError(f"{things} should wait, and not {self.jobs}, after\n{''.join(self.log)}")
+
+
+class Histories(Folder):
+    def test_nothing_is_lost_and_nothing_comes_again(self) -> None:
+        for seed in range(300):
+            history = History(seed, f"{self.folder}/log")
+            for _ in range(seed % 60):
+                history.step()
 
 
 class Places(Folder):

@@ -8,7 +8,7 @@ import contextlib
 import os
 import re
 import zlib
-from collections.abc import Iterable, Iterator, Mapping
+from collections.abc import Collection, Iterable, Iterator
 
 from . import turn
 from .session import acting_as
@@ -47,7 +47,7 @@ class Said(NamedTuple):
     """What the log says of jobs since a copy was made, or put back for the first time."""
 
     gone: dict[int, Line]
-    lost: dict[int, Anew]  # those of them for which others stood, none of which is in the copy, or done: the last one
+    lost: dict[int, Anew]  # those of them that wait again, because others stood for them, none of which is done: the last one
     delivered: set[int]  # jobs that were delivered here, also the pieces with which files were
     greatest: int  # number of a job of any spool, or 0
     has_mark: bool  # whether it has a line of the copy. Otherwise it says nothing of its jobs
@@ -61,83 +61,96 @@ def read(path: str, owner: str, word: str, mark: str, jobs: Iterable[int]) -> Sa
     reading = _Reading(word, mark, frozenset(jobs))
     for words in _lines(path, owner, faults):
         reading.take(words)
-    return Said(reading.gone, reading.lost(), reading.delivered, reading.greatest, reading.has_mark, faults)
+    return reading.said(faults)
 
 
 class _Reading:
     """What the lines so far say. A line is about the spool if the last copy that was made or put back before it is the spool's, and
-    no other spool was made since. Only some jobs are followed, and those that stand for them, which have greater numbers."""
+    no other spool was made since. Those before the first line of the copy only say which jobs stand for each other. Only jobs of the copy
+    are followed, and those that stand for them or for the same ones, which have greater numbers."""
 
     def __init__(self, word: str, mark: str, jobs: frozenset[int]) -> None:
         self._word, self._mark, self._jobs, self._followed = word.encode(), mark.encode(), jobs, set(jobs)
-        self.gone: dict[int, Line] = {}
+        self._gone: dict[int, Line] = {}
         self._done: set[int] = set()  # those for which none stood when they went
-        self._anew: dict[int, list[Anew]] = {}  # what stood for each, the last one last
+        self._anew: dict[int, Anew] = {}  # what stood for each, the last time
+        self._stands_for: dict[int, int] = {}  # for which one each stood
         self._pieces: dict[int, list[list[int]]] = {}  # in which each was handed on, once or again
         self._moved: set[int] = set()  # those for which one stands since a copy was put back last
-        self.delivered: set[int] = set()
-        self.greatest = 0
-        self.has_mark = self._is_its = False
+        self._delivered: set[int] = set()
+        self._greatest = 0
+        self._has_mark = self._is_its = False
 
     def take(self, words: list[bytes]) -> None:
         """Takes the next line."""
         if words[5] in _COPIES:
-            self._is_its = len(words) > 7 and words[7].split()[:1] == [self._word]
-            self.has_mark |= self._is_its and words[6] == self._mark
-            if self._is_its and words[5] == RESTORED.encode():
-                self._moved.clear()
+            self._take_copy(words)
         elif words[5] == b"done" and words[6] in _OTHERS:
             self._is_its = False
         elif words[4].isdigit():
             number = int(words[4])
-            self.greatest = max(self.greatest, number)
-            if self.has_mark and self._is_its:
+            self._greatest = max(self._greatest, number)
+            if self._is_its:
                 self._take_job(number, words)
 
+    def _take_copy(self, words: list[bytes]) -> None:
+        self._is_its = len(words) > 7 and words[7].split()[:1] == [self._word]
+        if self._is_its and words[6] == self._mark and not self._has_mark:
+            self._has_mark, self._followed = True, set(map(self._first, self._jobs))
+        if self._is_its and words[5] == RESTORED.encode():
+            self._moved.clear()
+
     def _take_job(self, number: int, words: list[bytes]) -> None:
-        if words[5] == b"delivered":
-            self.delivered |= {number} & self._followed
-        elif words[6] in _GOES:
-            if number in self._followed:
-                self.gone[number] = Line(b" ".join(words[:2]).decode(errors="replace"), words[6].decode())
-                self._done |= {number} - self._moved
-        elif found := _stands_for(words):
-            if self._follows(number, found[0]):
-                self._moved.add(found[0])
-                self._anew.setdefault(found[0], []).append(found[1])
-        elif (of := _is_piece_of(words)) and self._follows(number, of):
-            pieces = self._pieces.setdefault(of, [])
-            if of not in self._moved or not pieces:
-                pieces.append([])
-            pieces[-1].append(number)
+        if found := _stands_for(words):
+            of, anew = found
+            is_known = len(self._stands_for) < _MOST_ANEW  # (Otherwise the other one waits.)
+            if self._has_mark and self._first(of) in self._followed:
+                self._moved.add(of)
+                self._anew |= {of: anew} if is_known else {}
+            self._stands_for |= {number: of} if is_known else {}
+        elif (of := _is_piece_of(words)) and self._has_mark and self._first(of) in self._followed:
+            if of not in self._moved or of not in self._pieces:
+                self._pieces.setdefault(of, []).append([])
+            self._pieces[of][-1].append(number)
             self._moved.add(of)
+            self._followed.add(number)
+        elif self._has_mark and self._first(number) in self._followed:
+            if words[5] == b"delivered":
+                self._delivered.add(number)
+            elif words[6] in _GOES:
+                self._gone[number] = Line(b" ".join(words[:2]).decode(errors="replace"), words[6].decode())
+                self._done |= {number} - self._moved
 
-    def _follows(self, number: int, of: int) -> bool:
-        """Whether a job that stands for another one is followed from now on. (If there are too many, it isn't, and the other waits.)"""
-        if of not in self._followed or len(self._followed) >= len(self._jobs) + _MOST_ANEW:
-            return False
-        self._followed.add(number)
-        return True
+    def said(self, faults: list[str]) -> Said:
+        """What all lines say. Jobs that stand for each other are one thing. If one of them is done, all are. Otherwise one waits: one that
+        isn't gone, or else the last one that the copy has."""
+        done = {self._first(it): self._gone[it] for it in self._done}
+        for number, pieces in sorted(self._pieces.items(), reverse=True):
+            if any(all(self._first(it) in done for it in its) for its in pieces):
+                done[self._first(number)] = self._gone.get(number, Line("", "done"))
+        kept: dict[int, int] = {}  # of the jobs of the copy that stand for each other, the one that waits
+        for number in sorted(self._jobs, key=lambda it: (it not in self._gone, it)):
+            kept[self._first(number)] = number
+        gone = {it: done.get(self._first(it)) or self._gone[it] for it in self._jobs if it in self._gone or self._first(it) in done}
+        lost = {it: self._last(it, done) for it in gone if self._first(it) not in done and kept[self._first(it)] == it}
+        return Said(gone, lost, self._delivered, self._greatest, self._has_mark, faults)
 
-    def lost(self) -> dict[int, Anew]:
-        """The jobs that are gone because others stood for them, none of which is a job of the copy, or done."""
-        done, kept = set(self._done), set(self._jobs)
-        lost: dict[int, Anew] = {}
-        for number in sorted(self.gone.keys() & (self._anew.keys() | self._pieces.keys()) - done, reverse=True):
-            anew, pieces = self._anew.get(number, []), self._pieces.get(number, [])
-            if any(it.number in done for it in anew) or any(map(done.issuperset, pieces)):
-                done.add(number)
-            elif any(it.number in kept for it in anew):
-                kept.add(number)
-            else:
-                lost[number] = _last(anew[-1], lost) if anew else max(_last(Anew(it, ()), lost) for it in pieces[-1] if it not in done)
-        return lost
+    def _first(self, number: int) -> int:
+        """The first of the jobs that stand for each other."""
+        while number in self._stands_for:
+            number = self._stands_for[number]
+        return number
 
-
-def _last(anew: Anew, lost: Mapping[int, Anew]) -> Anew:
-    """The last of the jobs that stood for each other, with the line of the last one that was queued anew before one was handed on."""
-    later = lost.get(anew.number)
-    return Anew(later.number, (later.line or anew.line) if anew.line else ()) if later else anew
+    def _last(self, number: int, done: Collection[int]) -> Anew:
+        """The last one, with the line of the last one that was queued anew before one was handed on."""
+        line: tuple[str, ...] = ()
+        is_handed_on = False
+        while number in self._anew:
+            number, its = self._anew[number]
+            is_handed_on = is_handed_on or not its
+            line = line if is_handed_on else its
+        left = [it for it in self._pieces.get(number, [[]])[-1] if self._first(it) not in done]
+        return Anew(max((self._last(it, done).number for it in left), default=number), line)
 
 
 def _stands_for(words: list[bytes]) -> tuple[int, Anew] | None:

@@ -152,7 +152,6 @@ class Restoration:
         for job, _, lost in gone:
             if lost and job.number in anew:
                 self._note(_system_of(lost), job.user, anew[job.number], "done", " ".join(lost.line[1:]))
-                self._note(job.system, job.user, job.number, "done", f"kill {job.number}")
                 self._note(_system_of(lost), job.user, anew[job.number], "moved", f"from {job.system}, where it was job {job.number}")
 
     def _note(self, system: str, user: str, job: int | str, how: str, words: str) -> None:
