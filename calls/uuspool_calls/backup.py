@@ -191,7 +191,7 @@ class Backup:
             its_turn.wait_for_it(self._pause)
             self._expect_no_journal()
             with acting_as(self._owner):
-                Journal(found.log, found.zone, self._session.say).note("", user_name(os.geteuid()), "", logged.COPIED, line)
+                Journal(found.log, found.zone, self._session.say).note("", user_name(os.geteuid()), "", logged.COPIED, line, lasts=True)
             with its_turn.database(found.spool, self._pause) as spool:
                 target.put(name, spool)
                 self._put(f"{found.spool}-wal", target, f"{name}-wal")

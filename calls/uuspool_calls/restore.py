@@ -140,7 +140,7 @@ class Restoration:
             self._note_anew(gone, anew)
         path = self._exchange(made)
         which = f"{self._source.mark or '-'} {self._source.word} from {self._source.path}"
-        self._note("", user_name(self._place.seen.st_uid), "", logged.RESTORED, f"{which}: the next job gets {number} or a later number")
+        self._note("", user_name(self._place.seen.st_uid), "", logged.RESTORED, f"{which}: the next job gets {number} or a later number", lasts=True)
         if not self._is_same:
             self._note_anew(gone, anew)
         for job, line, lost in gone:
@@ -149,14 +149,16 @@ class Restoration:
         return path
 
     def _note_anew(self, gone: Sequence[Gone], anew: Mapping[int, int]) -> None:
+        left = len(anew)
         for job, _, lost in gone:
             if lost and job.number in anew:
+                left -= 1
                 self._note(_system_of(lost), job.user, anew[job.number], "done", " ".join(lost.line[1:]))
-                self._note(_system_of(lost), job.user, anew[job.number], "moved", f"from {job.system}, where it was job {job.number}")
+                self._note(_system_of(lost), job.user, anew[job.number], "moved", f"from {job.system}, where it was job {job.number}", lasts=not left)
 
-    def _note(self, system: str, user: str, job: int | str, how: str, words: str) -> None:
+    def _note(self, system: str, user: str, job: int | str, how: str, words: str, lasts: bool = False) -> None:
         with acting_as(self._owner):
-            Journal(self._settings.log, self._settings.zone, self._session.say).note(system, user, job, how, words)
+            Journal(self._settings.log, self._settings.zone, self._session.say).note(system, user, job, how, words, lasts)
 
     def _said(self, jobs: Sequence[Job]) -> logged.Said:
         """What the log says of the jobs of the copy. A job that brought a piece of a file here isn't done, unless the file was
