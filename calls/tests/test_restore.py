@@ -301,6 +301,12 @@ class Places(Folder):
             with mock.patch.object(place.os, "readlink", return_value=self.path), subprocess.Popen(["sleep", "60"], cwd="/") as other:
                 its.expect_nobody()  # (Its own mount may be at this path.)
                 other.kill()
+            self.put("site/spool.db-lock")
+            lock = os.open(f"{self.path}/spool.db-lock", os.O_RDWR)
+            for how, waits in ({"cwd": "/", "stdin": lock}, True), ({"cwd": self.path, "stdin": lock}, os.geteuid() == 0), ({"cwd": f"{self.path}/refused", "stdin": lock}, False):
+                with subprocess.Popen(["sleep", "60"], **how) as other:  # type: ignore[call-overload]
+                    self.assertEqual(waits, not its.workers(), how)
+                    other.kill()
             self.put("site2/x")
             with subprocess.Popen(["sleep", "60"], cwd=f"{self.folder}/site2") as other:
                 its.expect_nobody()

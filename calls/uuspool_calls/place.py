@@ -10,7 +10,7 @@ import os
 import shutil
 import stat
 import time
-from collections.abc import Callable, Collection
+from collections.abc import Callable, Collection, Sequence
 
 from . import clock, files, kernel
 from .copies import Target
@@ -63,11 +63,16 @@ class Place:
     # ---- who works there
 
     def workers(self) -> list[str]:
-        """The processes that work in the folder, or have a file in it open, as far as this user may know. (Who has the lock alone
-        waits for the turn, and then opens the spool that is there.)"""
+        """The processes that work in the folder, or have a file in it open, as far as this user may know."""
         users = {0, self.seen.st_uid}
-        found = ((int(it), _uses(f"/proc/{it}", self.path, users, self._lock)) for it in os.listdir("/proc") if it.isdigit() and int(it) != os.getpid())
-        return [f"process {number} ({_name_of(number)}) has {path}" for number, path in sorted(found) if path]
+        found = ((int(it), _used(f"/proc/{it}", self.path, users)) for it in os.listdir("/proc") if it.isdigit() and int(it) != os.getpid())
+        return [f"process {number} ({_name_of(number)}) has {paths[0]}" for number, paths in sorted(found) if paths and not self._waits(paths)]
+
+    def _waits(self, paths: Sequence[str]) -> bool:
+        """Whether a process that has these is a line that waits for the turn. Then it opens the spool that is there, or fails if it is in
+        a folder of root's by then."""
+        others = set(paths) - {self._lock}
+        return not others or (others == {self.path} and self._lock in paths and os.geteuid() == 0)
 
     def wait_for_nobody(self, pause: Callable[[float], None]) -> None:
         """Failure if processes work in the folder for some time. (Lines of members begin again and again.)"""
@@ -167,17 +172,18 @@ def _lock(handle: int, path: str) -> None:
         raise Failure(LATER, f"another uuspool-restore works in {path}") from None
 
 
-def _uses(process: str, folder: str, users: Collection[int], lock: str) -> str:
-    """Which file of a folder but the lock a process has open, or the folder if it works there, or nothing. Anybody may mount another folder at
-    its path for own processes, so the file has to be the same, or a removed one that a process of these users has open."""
+def _used(process: str, folder: str, users: Collection[int]) -> list[str]:
+    """Which files of a folder a process has open, and the folder if it works there. Anybody may mount another folder at its path
+    for own processes, so the file has to be the same, or a removed one that a process of these users has open."""
+    used = []
     for link in f"{process}/cwd", *(f"{process}/fd/{it}" for it in files.names_in(f"{process}/fd")):
         with contextlib.suppress(OSError):
             path = os.readlink(link)
-            if path == folder or path.startswith(f"{folder}/") and path != lock:
+            if path == folder or path.startswith(f"{folder}/"):
                 ours = files.look(path, follows=False)
                 if os.path.samestat(os.stat(link), ours) if ours else os.stat(process).st_uid in users:
-                    return path
-    return ""
+                    used.append(path)
+    return used
 
 
 def _name_of(process: int) -> str:
