@@ -93,7 +93,8 @@ unknown() { fail "$usage" "no option $1: see $front --help"; }
 
 # Asks the spool. $said is what the program printed. If the request fails, it prints the error and ends with a
 # status of sysexits. The program's status 2 means faulty words or faulty settings. Faulty settings are the
-# site's fault, so a message waits until they are corrected. They fail a question with right words, too.
+# site's fault, so a message waits until they are corrected. They fail a question with right words, too. So is a clock
+# beyond what the program knows.
 # A key of the terminal ends nothing that queues a piece.
 ask() {
     said=$([ -z "$its_pieces" ] || trap '' HUP INT TERM; $spool "$@" 2>&1) && return
@@ -101,7 +102,12 @@ ask() {
     case $ended in
     1) status=$refused ;;
     "$too_much") status=$later said="uuspool printed more than $((most_printed >> 20)) MiB, or was ended: ask as the owner of the spool" ;;
-    2) if $spool name >/dev/null 2>&1; then status=$usage; else status=$later; fi ;;
+    2)
+        case $said in
+        'uuspool: time: MomentRange'*) status=$later ;;
+        *) if $spool name >/dev/null 2>&1; then status=$usage; else status=$later; fi ;;
+        esac
+        ;;
     *) status=$later ;;
     esac
     plainly "${said:-uuspool ended with status $ended, and said nothing}" >&2

@@ -169,6 +169,11 @@ class StandIn:
         return self.ask(*words, given=given).encode()
 
 
+def aged(days: int) -> Callable[[str, int], bool]:
+    """Looks that saw everything for so many days."""
+    return lambda path, least: days >= least
+
+
 class Log(list):  # type: ignore[type-arg]
     """A log as a list of lines."""
 

@@ -151,6 +151,20 @@ class Copies(Folder):
             copier.take(f"{self.folder}/t", copies.Target(f"{self.folder}/other"))
             self.assertEqual((f"{self.folder}/t: Not a directory", []), (copier.left_out[0], os.listdir(f"{self.folder}/other")))
 
+    def test_links_and_closed_folders_stay_their_users(self) -> None:
+        self.put("s/closed/a", "a")
+        self.give(f"{self.folder}/s/closed")
+        os.chmod(f"{self.folder}/s/closed", 0)
+        os.symlink("a", f"{self.folder}/s/link")
+        os.chown(f"{self.folder}/s/link", 1, 1, follow_symlinks=False)
+        os.chmod(self.folder, 0o755)
+        target = copies.Target(f"{self.folder}/copy")
+        with copies.Copier((1,), pwd.getpwuid(1).pw_name) as copier:
+            copier.take(f"{self.folder}/s", target)
+        target.sync()
+        self.assertEqual([f"{self.folder}/s/closed: Permission denied"], copier.left_out)
+        self.assertEqual([(1, 1)] * 2, [(it.st_uid, it.st_gid) for it in map(os.lstat, (f"{self.folder}/copy/closed", f"{self.folder}/copy/link"))])
+
     def test_files_of_another_user(self) -> None:
         self.put("s/a", "a")
         self.give(self.put("s/b", "b"))

@@ -329,30 +329,6 @@ class Small(Folder):
         self.assertEqual({"a": "system a\ntime Any\n", "b.c": "system b.c\ntime Never\n"}, sysfile.definitions(text))
         self.assertEqual({}, sysfile.definitions(""))
 
-    def test_older_jobs(self) -> None:
-        here = site(self.folder, StandIn())
-        old = LINE.replace("2026", "2001")
-        jobs = [Job.read(it) for it in (LINE, f"8{old[1:]}", f"9{old[1:]}".replace("duke", "mysite"))]
-        self.assertEqual([jobs[1]], expire.older(here, jobs, 3650))
-
-    def test_a_file_is_as_old_as_its_newest_piece(self) -> None:
-        here = site(self.folder, StandIn())
-        lines = [LINE.replace("rmail joe", f"{COMMAND} {'0' * 64}.{size}.1000.x {at} send a b") for size in (2000, 2001) for at in (0, 1000)]
-        lines = [lines[0].replace("2026", "2001"), *(it.replace("2026", "2001") for it in lines[2:]), lines[1]]
-        jobs = [Job.read(f"{number}{line[1:]}") for number, line in enumerate(lines, 1)]
-        self.assertEqual([2, 3], [it.number for it in expire.older(here, jobs, 3650)])
-
-    def test_a_clock_that_jumped_makes_no_job_old(self) -> None:
-        here = site(self.folder, StandIn())
-        hour, day = 3600, 86400
-        for now, running, boot, jump in (
-            (0, 0, "a", None), (day, day, "a", None), (3 * day, 2 * day, "a", None), (33 * day + hour, 3 * day, "a", 29 * day + hour), (34 * day, 4 * day, "a", None),
-            (36 * day + 1, 5 * day, "a", day + 1), (35 * day, 5 * day, "a", -day - 1), (34 * day, 5 * day, "a", None),
-            (4 * day, 5 * day, "a", -30 * day), (5 * day, 6 * day, "a", None), (95 * day, 1, "b", None), (186 * day, 1, "c", 91 * day), (100 * day, 1, "d", -86 * day), (101 * day, 1, "e", None),
-        ):  # fmt: skip
-            with mock.patch.multiple("uuspool_calls.clock", now=lambda: int(2e9) + now, running=lambda: float(running), boot=lambda: boot):
-                self.assertEqual(jump, expire._jumped(here), (now, running, boot))
-
     def test_held(self) -> None:
         here = site(self.folder, StandIn())
         hold._hold(here, "duke", ends=False)

@@ -5,8 +5,8 @@ import time
 from functools import partial
 from unittest import mock
 
-from uuspool_calls import cli, commands, deliver, executions, records, works
-from uuspool_calls.errors import Delay, Refusal
+from uuspool_calls import cli, commands, deliver, executions, records, refuse, works
+from uuspool_calls.errors import Delay, Failure, Refusal
 from uuspool_calls.files import Lock, memory_file
 from uuspool_calls.jobs import Job
 from uuspool_calls.processes import Child, Children, Processes, Program
@@ -70,19 +70,19 @@ class Commands(Folder):
 class Records(Folder):
     def test_tries(self) -> None:
         job = parcel().job
-        tries = records.Tries.read(self.folder, job, 1000)
+        tries = records.Tries.read(self.folder, "w1", job, 1000)
         waits = []
         for _ in range(7):
             tries = tries.after_failure("no", 1000)
             waits.append(tries.next - 1000)
         self.assertEqual([600, 1200, 2400, 4800, 9600, 14400, 14400], waits)
         tries.write(self.folder, 7)
-        self.assertEqual(tries, records.Tries.read(self.folder, job, 5000))
-        self.assertEqual(records.Tries(LINE.replace("joe", "eve"), 0, 0, 5000), records.Tries.read(self.folder, Job.read(LINE.replace("joe", "eve")), 5000))
+        self.assertEqual(tries, records.Tries.read(self.folder, "w1", job, 5000))
+        self.assertEqual(records.Tries(LINE.replace("joe", "eve"), "w1", 0, 0, 5000), records.Tries.read(self.folder, "w1", Job.read(LINE.replace("joe", "eve")), 5000))
         self.assertEqual(7, json.loads(self.bytes_of("7"))["failed"])
 
     def test_times(self) -> None:
-        tries = records.Tries(LINE, 1, 1600, 1000)
+        tries = records.Tries(LINE, "w1", 1, 1600, 1000)
         self.assertEqual([True, False, False], [tries.is_later(now) for now in (1500, 1600, -86400)])
         later = 1000 + 5 * 86400
         self.assertEqual([False, True], [tries._replace(failed=20).is_old(later + it) for it in (0, 1)])
@@ -91,14 +91,27 @@ class Records(Folder):
     def test_damaged_records(self) -> None:
         for text in "", "x", "{", '{"failed": 1}', "[1]", "\xff", json.dumps({"job": LINE, "failed": "x", "next": 0, "first": 0, "why": ""}):
             self.put("7", text.encode("latin-1"))
-            self.assertEqual(0, records.Tries.read(self.folder, parcel().job, 1500).failed, text)
+            self.assertEqual(0, records.Tries.read(self.folder, "w1", parcel().job, 1500).failed, text)
+
+    def test_a_record_stays_with_its_job(self) -> None:
+        """(Another rule of the clock shows another moment. A record of before has no word of a spool.)"""
+        tries, shown = records.Tries(LINE, "w1", 3, 1600, 1000, "no", "x"), LINE.replace(" N 2026-11-28 10:", " A 2026-11-28 11:")
+        before = {name: value for name, value in tries._asdict().items() if name != "word"}
+        for kept, word, line, failed in (
+            (tries._asdict(), "w1", LINE, 3), (tries._asdict(), "w1", shown, 3), (tries._asdict(), "w2", shown, 0), (tries._asdict(), "", shown, 0), (before, "w1", LINE, 3), (before, "w1", shown, 0), (before, "w1", LINE.replace(" N ", " A "), 3),
+            (tries._asdict(), "w1", shown.replace("joe", "eve"), 0), (tries._asdict(), "w1", shown.replace(" 5 ", " 6 "), 0), *((tries._asdict() | {"job": it}, "w1", LINE, 0) for it in ("x", 7, None)),
+        ):  # fmt: skip
+            self.put("7", json.dumps(kept))
+            read = records.Tries.read(self.folder, word, Job.read(line), 5000)
+            self.assertEqual((LINE if failed else line, word, failed, "x" if failed else ""), (read.job, read.word, read.failed, read.came), (kept, word, line))
+            self.assertEqual(("10:00:00" if failed else Job.read(line).hour), read.of(Job.read(line)).hour)
 
     def test_what_is_due(self) -> None:
         jobs = [Job.read(f"{number}{LINE[1:]}") for number in (1, 2, 3)]
-        os.mkdir(f"{self.folder}/deliver")
-        records.Tries(jobs[0].line, 1, 900, 0).write(f"{self.folder}/deliver", 1)
-        records.Tries(jobs[1].line, 1, 1900, 0).write(f"{self.folder}/deliver", 2)
-        self.assertEqual([3, 1], deliver.due(self.folder, jobs, 1000))
+        here = site(self.folder, StandIn())
+        records.Tries(jobs[0].line, "w1", 1, 900, 0).write(f"{self.folder}/deliver", 1)
+        records.Tries(jobs[1].line, "w1", 1, 1900, 0).write(f"{self.folder}/deliver", 2)
+        self.assertEqual([3, 1], deliver.due(here, jobs, 1000))
 
     def test_senders_take_turns(self) -> None:
         users = ["unc!a", "unc!b", "duke!c", "unc!d", "ann", "duke!e"]
@@ -183,20 +196,19 @@ class Clean(Folder):
 
 
 class Jumps(Folder):
-    def test_one_round_with_a_wrong_clock_removes_nothing(self) -> None:
-        here, now, names = site(self.folder, StandIn()), time.time(), ["1", "2"]
-        for name in names:
+    def test_a_round_with_a_wrong_clock_removes_nothing(self) -> None:
+        here, now, names = site(self.folder, StandIn()), time.time(), ["1", "2", "ab12"]
+        for name in names[:2]:
             self.put(f"refused/{name}", b"no\n" + LINE.encode() + b"\nhello")
-        self.put("refused/.looked")
-        for years, left in (10, names), (0, names), (10, names):
-            with mock.patch("time.time", return_value=now + years * 365 * 86400):
+        self.put("pieces/unc/ab12/0", b"x")
+        for name in "refused/1", "pieces/unc/ab12":  # (written while the clock was behind)
+            os.utime(f"{self.folder}/{name}", (1, 1))
+        for hours in 0, 2, 29 * 24, 31 * 24, 87600, 87602, -87600, 3:
+            with mock.patch("time.time", return_value=now + hours * 3600):
                 deliver._clean(here, [])
-            os.utime(f"{self.folder}/refused/.looked", (now + years * 365 * 86400,) * 2)
-            self.assertEqual(left, sorted(it for it in os.listdir(f"{self.folder}/refused") if it[0] != "."))
-        os.utime(f"{self.folder}/refused/1", (1, 1))
-        os.utime(f"{self.folder}/refused/.looked", (now - 7200,) * 2)
-        deliver._clean(here, [])
-        self.assertEqual(["2"], sorted(it for it in os.listdir(f"{self.folder}/refused") if it[0] != "."))
+            os.utime(f"{self.folder}/refused/.looked", (now + hours * 3600,) * 2)
+            left = [*os.listdir(f"{self.folder}/refused"), *os.listdir(f"{self.folder}/pieces/unc")]
+            self.assertEqual(names, sorted(it for it in left if it[0] != "."), hours)
 
 
 class Works(Folder):
@@ -304,6 +316,23 @@ class Ends(Folder):
         for name in "night", "expire":
             with open(f"{top}/uuspool-{name}.service", encoding="utf-8") as file:
                 self.assertIn("KillMode=mixed\n", file.read().splitlines(keepends=True), name)
+
+
+class Refused(Folder):
+    def test_what_is_being_delivered_is_not_refused(self) -> None:
+        spool = StandIn()
+        spool.parcels = {number: parcel(LINE.replace("7 duke", f"{number} {system}")) for number, system in ((7, "mysite"), (8, "duke"))}
+        its = site(self.folder, spool)
+        with its.lock("deliver/7.lock") as mine, its.lock("deliver/8.lock") as other:
+            mine.take(), other.take()
+            with self.assertRaisesRegex(Failure, "^job 7 is being delivered"):
+                refuse._refuse(its, spool.parcels[7], "why")
+            self.assertTrue(refuse._refuse(its, spool.parcels[8], "why"))
+        its7 = spool.parcels[7]
+        self.assertTrue(refuse._refuse(its, its7, "why"))
+        spool.parcels.clear()
+        with self.assertRaisesRegex(Failure, "^there is no job 7"):
+            refuse._refuse(its, its7, "why")
 
 
 class Senders(Folder):

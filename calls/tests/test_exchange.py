@@ -12,10 +12,10 @@ from uuspool_calls.exchange import Neighbour, NoBundle, NotTaken, expect_size
 from uuspool_calls.jobs import Job
 from uuspool_calls.letters import Letter, Mailroom, NotSent, at_home
 from uuspool_calls.processes import Ended
-from uuspool_calls.refusals import Kept, Refuser, forget_excess, forget_old, forget_warnings, has_untold, is_time_to_look, tell, warn
+from uuspool_calls.refusals import Kept, Refuser, forget_excess, forget_old, forget_warnings, has_untold, look, tell, warn
 from uuspool_calls.spool import Refused, Settled, Unpacked
 
-from .standins import LINE, Folder, Mailer, StandIn, parcel, site
+from .standins import LINE, Folder, Mailer, StandIn, aged, parcel, site
 
 TEXT = b"bundle\nhas 3 5\n"
 JOB = b"bundle\njob 1 5 N ann 1 send a b\nx\nend\n"
@@ -278,12 +278,24 @@ class Refusing(Folder):
 
     def test_who_takes_none_of_its_letters_gets_no_more(self) -> None:
         letters, others = ([parcel(LINE.replace("7", str(at), 1).replace("ann", user)) for at in range(first, first + 1000)] for first, user in ((1, "MAILER-DAEMON"), (2000, "ann")))
-        for waiting, count in (letters, 0), (letters[1:], 1), (letters[1:] + others, 1):
+        bounces = [parcel(LINE.replace("7", str(at), 1).replace("ann", "MAILER-DAEMON")) for at in range(4000, 5000)]  # (of a mailer)
+        self.put("refused/.letters-duke.numbers", "".join(f"{it.job.number}\n" for it in letters))
+        for waiting, count in (letters, 0), (letters[1:], 1), (letters[1:] + others, 1), (bounces + letters[1:], 1), (bounces + letters, 0):
             self.spool.parcels = {it.job.number: it for it in waiting}
             self.spool.asked.clear()
             self.site.log.clear()
             Mailroom(self.site).send(Letter("x", "x", "x"), parcel(LINE.replace("ann", "duke!ann")).job, b"")
             self.assertEqual((count, 1 - count), (len(self.spool.asked), len(self.site.log)))
+
+    def test_the_numbers_of_letters_that_wait_are_known(self) -> None:
+        room, path = Mailroom(self.site), "refused/.letters-duke.numbers"
+        for number in 7, 123456:
+            with mock.patch.object(self.spool, "ask_once", return_value=f"job {number}\n".encode()):
+                room.send(Letter("x", "x", "x"), parcel(LINE.replace("ann", "duke!ann")).job, b"")
+        self.assertEqual(b"7\n123456\n", self.bytes_of(path))
+        self.put(path, "".join(f"{number}\n" for number in range(20000)))
+        room._note("duke", "job 20000\n")
+        self.assertEqual((b"20000", True), (self.bytes_of(path).split()[-1], 2000 < len(self.bytes_of(path).split()) < 20000))
 
     def test_what_a_sender_may_keep_here(self) -> None:
         for number, user in (1, "unc!x"), (2, "unc!x"), (3, "duke!y"), (4, "ann"):
@@ -292,13 +304,13 @@ class Refusing(Folder):
             os.utime(f"{self.folder}/refused/{number}.untold", (number * 86400,) * 2)
         tell(self.site)
         self.site.session.environment |= {"UUSPOOL_REFUSED_DAYS": "40000", "UUSPOOL_REFUSED_MEGABYTES": "1"}
-        forget_old(self.site)
+        forget_old(self.site, aged(20000))
         self.assertEqual(4, sum(it[0] != "." for it in os.listdir(f"{self.folder}/refused")))
         forget_excess(self.site)
         kept = sorted(it for it in os.listdir(f"{self.folder}/refused") if it[0] != ".")
         self.assertEqual(["2", "3", "4"], kept)
         self.site.session.environment["UUSPOOL_REFUSED_DAYS"] = "30"
-        forget_old(self.site)
+        forget_old(self.site, aged(20000))
         self.assertEqual([".lock"], os.listdir(f"{self.folder}/refused"))
 
     def test_nothing_goes_before_its_user_was_told(self) -> None:
@@ -314,13 +326,19 @@ class Refusing(Folder):
 
     def test_when_it_is_looked_how_old_things_are(self) -> None:
         looked = []
-        for hours in 0, 0.5, 1.6, 10 * 8766, 10 * 8766 + 0.5, 10 * 8766 + 1.6, 3, 3.5, 4.1, 500, 1300:
+        for hours in 0, 0.5, 1.6, 10 * 8766, 10 * 8766 + 0.5, 10 * 8766 + 1.6, 3, 3.5, 4.1, 500:
             with mock.patch("time.time", return_value=1.8e9 + hours * 3600):
-                looked.append(is_time_to_look(self.site))
-                moment = (time.time(),) * 2 if hours in (0, 1.6, 10 * 8766, 10 * 8766 + 1.6, 3, 4.1, 500, 1300) else None
+                looked.append(look(self.site) is not None)
+                moment = (time.time(),) * 2 if looked[-1] else None
             if moment:  # (which the system takes of its own clock)
                 os.utime(f"{self.folder}/refused/.looked", moment)
-        self.assertEqual([False, False, True, False, False, True, False, False, True, True, False], looked)
+        self.assertEqual([True, False, True, True, False, True, True, False, True, True], looked)
+
+    def test_what_nobody_was_told_about_is_kept_whatever_its_age(self) -> None:
+        for number, end in enumerate(("", ".untold", ".file", ".file.untold"), 1):
+            self.put(f"refused/{number}{end}")
+        forget_old(self.site, aged(1000))
+        self.assertEqual(["2.untold", "4.file.untold"], sorted(it for it in os.listdir(f"{self.folder}/refused") if it[0] != "."))
 
     def test_a_file_is_refused_with_all_its_pieces_in_one_letter_without_bytes(self) -> None:
         lines = [LINE.replace("7", str(at), 1).replace(" 5 ", " 1000 ").replace("rmail joe", f"{FILE} {place} send /x ~/y") for at, place in ((7, 0), (8, 2000), (9, 1000))]

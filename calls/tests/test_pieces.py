@@ -4,18 +4,17 @@ import hashlib
 import json
 import os
 import shutil
-import time
 import unittest
 from unittest import mock
 
 from uuspool_calls import clock, deliver, files, outgoing, pieces, records, refusals
 from uuspool_calls.delivery import Delivery, Outcome, Wishes
-from uuspool_calls.errors import Delay, Failure, Refusal, SpoolError
+from uuspool_calls.errors import Delay, Failure, Refusal, SpoolError, Stopped
 from uuspool_calls.files import memory_file
 from uuspool_calls.jobs import Delivered, Job
 from uuspool_calls.pieces import COMMAND, Piece
 
-from .standins import LINE, Folder, StandIn, parcel, site
+from .standins import LINE, Folder, StandIn, aged, parcel, site
 
 SUM = "0" * 64
 LENGTH = 1000
@@ -307,11 +306,8 @@ class Refused(Arrivals):
         self.give(0)
         self.give(2000)
         self.give(0, "exec", "rmail", "joe", number=9)
-        folders = [f"{self.folder}/pieces/a/{it}" for it in os.listdir(f"{self.folder}/pieces/a") if not it.endswith(".lock")]
         for days in 29, 31:
-            for path in folders:
-                os.utime(path, (time.time() - days * 86400,) * 2)
-            deliver._refuse_unfinished(self.site)
+            deliver._refuse_unfinished(self.site, aged(days))
             self.assertEqual(2 if days < 30 else 0, len(self.kept()))
         self.assertIn("mysite a!ann  refused-for-good send /x ~/in/x: 2 of 3 pieces came, and no other one for 30 days", self.log)
         self.assertEqual(0, refusals.tell(self.site))
@@ -323,23 +319,28 @@ class Refused(Arrivals):
             return self.delivery.deliver(self.job(words_of(DATA, at), content)).how
 
     def test_a_newer_piece_begins_the_time_anew(self) -> None:
-        self.give(0)
-        [folder] = [it for it in os.listdir(f"{self.folder}/pieces/a") if not it.endswith(".lock")]
-        for at in 1000, 0:
-            os.utime(f"{self.folder}/pieces/a/{folder}", (0, 0))
+        for at in 0, 1000, 0:
             self.give(at)
-            deliver._refuse_unfinished(self.site)
+            self.look(20)
             self.assertEqual(1, len(self.kept()))
+        self.look(9)
+        self.assertEqual(1, len(self.kept()))
+        self.look(1)
+        self.assertEqual(0, len(self.kept()))
+
+    def look(self, days: float) -> None:
+        """Two looks, with so many days between them."""
+        for running in 5 * 86400.0, (5 + days) * 86400:
+            with mock.patch("uuspool_calls.clock.running", return_value=running), mock.patch("uuspool_calls.files.is_fresh", return_value=False):
+                deliver._clean(self.site, [])
 
     def test_what_a_stop_left_is_removed(self) -> None:
         for at in 0, 1000, 2000:
             self.take(DATA, at)
         self.put("pieces/a/odd/about", "{")
         self.put("pieces/a/gone.lock")
-        for name in os.listdir(f"{self.folder}/pieces/a"):
-            os.utime(f"{self.folder}/pieces/a/{name}", (0, 0))
-        deliver._refuse_unfinished(self.site)
-        deliver._refuse_unfinished(self.site)
+        deliver._refuse_unfinished(self.site, aged(30))
+        deliver._refuse_unfinished(self.site, aged(30))
         self.assertEqual(([], []), ([it for it in os.listdir(f"{self.folder}/pieces/a") if not it.endswith(".lock")], os.listdir(f"{self.folder}/refused")))
 
     def test_the_newest_file_is_kept_however_large(self) -> None:
@@ -353,8 +354,7 @@ class Refused(Arrivals):
         refusals.forget_excess(self.site)
         self.assertEqual(1, len([it for it in os.listdir(f"{self.folder}/refused") if it[0] != "."]))
         self.session.environment["UUSPOOL_REFUSED_DAYS"] = "0"
-        os.utime(f"{self.folder}/refused/{[it for it in os.listdir(f'{self.folder}/refused') if it[0] != '.'][0]}", (0, 0))
-        refusals.forget_old(self.site)
+        refusals.forget_old(self.site, aged(0))
         self.assertEqual([".lock"], os.listdir(f"{self.folder}/refused"))
 
 
@@ -373,8 +373,8 @@ class Letters(Refused):
         self.assertEqual("mysite a!ann 1 waits it is delivered, and a!ann cannot be told: /nowhere takes no letter", self.log[-1])
         os.remove(f"{self.folder}/public/a/in/x")
         job = self.spool.parcels[1].job
-        self.assertEqual([[], [1]], [deliver.due(self.folder, [job], clock.now() + it) for it in (590, 610)])  # (not in each round)
-        tries = records.Tries.read(f"{self.folder}/deliver", job, 0)
+        self.assertEqual([[], [1]], [deliver.due(self.site, [job], clock.now() + it) for it in (590, 610)])  # (not in each round)
+        tries = records.Tries.read(f"{self.folder}/deliver", "w1", job, 0)
         self.spool.fails = {}
         self.assertEqual(0, self.give(0, "send", "/x", "~/in/x", "-m", number=1, data=b"abc"))
         self.assertEqual((2, False), (len(self.letters()), os.path.exists(f"{self.folder}/public/a/in/x")))
@@ -389,11 +389,32 @@ class Letters(Refused):
         for _ in range(3):
             with self.assertRaisesRegex(Failure, "job 1 is delivered, and that cannot be noted: uuspool: spool: store"):
                 self.deliverer.deliver(1)
-            self.assertEqual([1], deliver.due(self.folder, [self.spool.parcels[1].job], clock.now()))
+            self.assertEqual([1], deliver.due(self.site, [self.spool.parcels[1].job], clock.now()))
+        for shown in "B 2026-11-28 11:00:00", "A 2026-11-28 11:00:00":  # (another rule of the site's clock, and another grade)
+            self.spool.parcels[1] = parcel(f"1 mysite a!ann {shown} 5 exec rmail joe")
+            self.assertRaises(Failure, self.deliverer.deliver, 1)
         self.spool.fails = {}
         self.assertEqual(0, self.deliverer.deliver(1))
         self.assertEqual((1, "mysite a!ann 1 delivered exec rmail joe"), (len(self.bytes_of("ran").splitlines()), self.log[-1]))
         self.assertFalse(os.path.exists(f"{self.folder}/deliver/1"))
+
+    def test_a_job_has_one_name_whatever_the_sites_clock_shows(self) -> None:
+        self.put("busy")
+        for hour in 10, 11:
+            self.spool.parcels[1] = parcel(f"1 mysite a!ann B 2026-11-28 {hour}:00:00 5 exec rmail joe")
+            self.assertEqual(0, self.deliverer.deliver(1))
+        self.assertEqual(b"mysite!1!2026-11-28.10:00:00 joe\n" * 2, self.bytes_of("ran"))
+
+    def test_a_file_that_came_is_known_whatever_the_sites_clock_shows(self) -> None:
+        about = pieces.About(Piece(SUM, 1, 1, "", 0, ("send", "a", "b")), "a!ann", came="mysite!12!2026-11-28.10:00:00")
+        names = "mysite!12!2026-11-28.11:00:00", "mysite!2!2026-11-28.10:00:00", "duke!12!2026-11-28.10:00:00", ""
+        self.assertEqual([True, False, False, False], [about.came_with(it) for it in names])
+        for hour in 10, 11:
+            self.spool.fails["done"] = SpoolError(3, "uuspool: spool: store")
+            words = " ".join((COMMAND, hashlib.sha256(b"abc").hexdigest(), "3", "0", "~/in/x"))
+            self.spool.parcels[1] = parcel(f"1 mysite a!ann B 2026-11-28 {hour}:00:00 3 exec {words}", b"abc")
+            self.assertRaises(Failure, self.deliverer.deliver, 1)
+        self.assertEqual(["x"], os.listdir(f"{self.folder}/public/a/in"))
 
     def test_wishes(self) -> None:
         self.assertEqual(Wishes(True, "bob"), Wishes.read(["-m", "-nbob"]))
@@ -442,6 +463,19 @@ class HandedOn(Refused):
                 self.assertEqual(0, self.deliverer.deliver(1))
         asked = [it for it in self.spool.asked if it[0] == "exec"]
         self.assertEqual((3, 1), (len(asked), len({it[5] for it in asked})))
+        self.assertFalse(os.path.exists(f"{self.folder}/deliver/1"))
+
+    def test_mail_that_is_queued_again_after_a_kill_is_the_same_file(self) -> None:
+        """(The kill comes behind the last piece, and then another rule of the site's clock.)"""
+        self.put("etc/forward", "a unc\n")
+        text = b"Subject: x\n\n" + bytes((1 << 20) - 20)
+        for hour in 10, 11:
+            self.spool.parcels[1] = parcel(f"1 mysite a!ann B 2026-11-28 {hour}:00:00 {len(text)} exec rmail unc!joe", text)
+            with mock.patch.object(self.deliverer, "_finish", side_effect=Stopped):
+                self.assertRaises(Stopped, self.deliverer.deliver, 1)
+            self.assertEqual([1], deliver.due(self.site, [self.spool.parcels[1].job], clock.now()))
+        asked = [it for it in self.spool.asked if it[0] == "exec"]
+        self.assertEqual((4, 1), (len(asked), len({it[5] for it in asked})))
 
 
 class Older(Arrivals):
@@ -464,8 +498,7 @@ class Older(Arrivals):
     def test_those_of_which_no_more_comes(self) -> None:
         self.put(f"pieces/a/{SUM}-1-2/1", "x")
         self.put(f"pieces/a/{SUM}-1-2/about", json.dumps({"user": "a!ann", "to": "~/x", "size": 2_500_000}))
-        os.utime(f"{self.folder}/pieces/a/{SUM}-1-2", (0, 0))
-        deliver._refuse_unfinished(self.site)
+        deliver._refuse_unfinished(self.site, aged(30))
         self.assertEqual(["mysite a!ann  refused-for-good send ~/x ~/x: 1 of 3 pieces came, and no other one for 30 days"], self.site.log)
         self.assertEqual(0, refusals.tell(self.site))
 

@@ -270,7 +270,8 @@ class Stops(Folder):
 
         def work(processes: Processes) -> None:
             self.put("status", str(processes.run(program).status))
-            processes.run(program)
+            while True:  # (On a slow machine the stop comes later.)
+                processes.run(program)
 
         self.assertEqual(75, self.in_child(work, "begun"))
         self.assertEqual((b"done\n", b"0"), (self.bytes_of("done"), self.bytes_of("status")))

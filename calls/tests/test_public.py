@@ -300,7 +300,14 @@ class Forwarding(Folder):
 
     def test_what_is_behind_the_own_name(self) -> None:
         for address, rest in ("mysite!unc!joe", "unc!joe"), ("mysite!mysite!joe", "joe"), ("mysite!", "mysite!"), ("unc!mysite!joe", "unc!mysite!joe"), ("joe", "joe"), ("mysite2!joe", "mysite2!joe"):
-            self.assertEqual(rest, forward.behind("mysite", address))
+            self.assertEqual(rest, forward.behind(self.path, "mysite", address))
+
+    def test_what_comes_for_a_domain_of_this_site(self) -> None:
+        """An envelope has `ann@mysite.example` as `mysite.example!ann`, so that is where a letter to her comes."""
+        for address in "mysite.example!ann", "mysite!mysite.example!ann", "Mysite.Example!ann":
+            self.assertEqual((True, f"ann@{address.removeprefix('mysite!').partition('!')[0]}"), (self.is_taken(address), forward.behind(self.path, "mysite", address)))
+        for address in "b.example!ann", "mysite.example!phs!ann", "mysite.example!-oX", "mysite.example!|id", "mysite.example!ann@c.example", "mysite.example!", "mysite.example2!ann":
+            self.assertEqual((False, address), (self.is_taken(address), forward.behind(self.path, "mysite", address)))
 
     def test_what_the_spool_hands_on(self) -> None:
         self.assertEqual([("unc",), (), ()], [forward.read(self.path, it).systems for it in ("duke", "hub", "phs")])

@@ -3,8 +3,10 @@ import fcntl
 import gzip
 import os
 import pwd
+import random
 import stat
 import subprocess
+from collections.abc import Iterable
 from unittest import mock
 
 from uuspool_calls import kernel, logged, place, restore, restored, source
@@ -24,13 +26,21 @@ def line(hour: int, number: int | str, what: str, how: str = "done") -> str:
     return f"{DAY} {hour:02}:00:00 duke ann {number} {how} {what}\n"
 
 
+def about(how: str, mark: str, word: str) -> str:
+    """A line about a copy."""
+    return f"{DAY} 01:00:00 - uucp - {how} {mark} {word} /copies/a\n"
+
+
+HERE = about("copied", "0a", "w")  # the copy that is put back
+
+
 class Log(Folder):
-    def said(self, hour: int = 12) -> logged.Said:
-        return logged.read(f"{self.folder}/log", "", f"{DAY} {hour:02}:00:00")
+    def said(self, mark: str = "0a", jobs: Iterable[int] = range(1, 10)) -> logged.Said:
+        return logged.read(f"{self.folder}/log", "", "w", mark, jobs)
 
     def test_which_jobs_are_gone(self) -> None:
         others = line(2, 8, "kill 8", "NoJob") + line(2, 9, "x", "waits") + line(2, "-", "load") + "settle\n\n" + line(2, "1" * 30, "kill") + line(2, "x", "kill")
-        self.put("log", line(1, 3, "send a b") + line(13, 1, "settle") + line(14, 2, "done duke") + line(15, 3, "kill 3") + line(16, 7, "exec x") + others)
+        self.put("log", HERE + line(1, 3, "send a b") + line(13, 1, "settle") + line(14, 2, "done duke") + line(15, 3, "kill 3") + line(16, 7, "exec x") + others)
         said = self.said()
         self.assertEqual({1: "settle", 2: "done", 3: "kill"}, {number: it.how for number, it in said.gone.items()})
         self.assertEqual((f"{DAY} 15:00:00", 7, []), (said.gone[3].moment, said.greatest, said.faults))
@@ -44,17 +54,18 @@ class Log(Folder):
         chains = anew(11, 1, "again") + anew(12, 11, "again") + anew(13, 2, "again") + anew(14, 13, "onward", "unc!joe") + anew(15, 3, "onward") + anew(16, 15, "again")
         others = anew(17, 4, "again") + line(13, 18, "exec -gC -- duke rmail --once=mysite!5!again") + anew(6, 19, "again") + line(13, 20, "exec -gC --once=mysite!6!again")
         gone = "".join(line(14, number, "kill -- x") for number in (1, 11, 2, 13, 3, 15, 4, 17, 5, 6))
-        self.put("log", chains + others + gone)
+        self.put("log", HERE + chains + others + gone)
         said = self.said()
 
         def words(number: int) -> tuple[str, ...]:
             return ("--as=ann", "exec", "-gC", f"--once=mysite!{ {12: 11, 13: 2}[number] }!again", "--", "duke", "rmail", f"x!{number}")
 
-        lost = [said.lost(number, 10) for number in range(1, 8)]
+        lost = [said.lost.get(number) for number in range(1, 8)]
         self.assertEqual([(12, words(12)), (14, words(13)), (16, ()), None, None, None, None], lost)
-        self.assertEqual([None, None, (16, ())], [said.lost(number, 15) for number in (1, 2, 3)])
-        self.put("log", chains + gone + line(15, 12, "settle"))
-        self.assertIsNone(self.said().lost(1, 10))
+        said = self.said(jobs=(1, 2, 3, 12, 14))
+        self.assertEqual([None, None, (16, ())], [said.lost.get(number) for number in (1, 2, 3)])
+        self.put("log", HERE + chains + gone + line(15, 12, "settle"))
+        self.assertNotIn(1, self.said().lost)
 
     def test_what_was_handed_on_in_pieces(self) -> None:
         def piece(number: int, of: str, at: int, user: str = "unc!joe") -> str:
@@ -64,39 +75,78 @@ class Log(Folder):
         gone = "".join(line(14, number, "done mysite x") for number in (1, 2, 3, 10, 13, 20, 23, 26))
         moved = line(15, 17, "exec -gN --once=mysite!16!again -- phs uuspool-piece x") + line(15, 16, "kill -- 16")
         for text, wanted in (pieces + gone, (16, ())), (pieces + gone + moved, (17, ())), (pieces + gone + moved + line(16, 17, "settle"), None):
-            self.put("log", text)
+            self.put("log", HERE + text)
             said = self.said()
-            self.assertEqual([wanted, None, None], [said.lost(number, 10) for number in (1, 2, 3)])
+            self.assertEqual([wanted, None, None], [said.lost.get(number) for number in (1, 2, 3)])
 
-    def test_each_init_begins_another_spool(self) -> None:
-        self.put("log", line(1, 1, "kill 1") + line(2, "-", "init") + line(3, 2, "kill 2") + line(4, "-", "init") + line(5, 9, "kill 9"))
-        for hour, gone, greatest in (1, [1], 1), (3, [2], 2), (6, [9], 9):
-            said = self.said(hour)
-            self.assertEqual((gone, greatest), (sorted(said.gone), said.greatest))
+    def test_lines_about_other_spools_and_of_before(self) -> None:
+        killed = {number: line(2, number, f"kill {number}") for number in range(1, 10)}
+        copied, others, restored = about("copied", "0b", "w"), about("copied", "0c", "v"), about("restored", "0a", "w")
+        init, renumber = line(1, "-", "init"), line(1, "-", "renumber 99")
+        for text, mark, gone in (
+            (killed[1] + HERE + killed[2] + copied + killed[3] + others + killed[4] + copied + killed[5], "0a", [2, 3, 5]),
+            (killed[1] + HERE + killed[2] + copied + killed[3] + others + killed[4] + copied + killed[5], "0b", [3, 5]),
+            (HERE + killed[1] + init + killed[2] + restored + killed[3] + copied + killed[4], "0a", [1, 3, 4]),
+            (HERE + killed[1] + init + killed[2] + restored + killed[3] + copied + killed[4], "0b", [4]),
+            (init + killed[1] + restored + killed[2], "0a", [2]),
+            (HERE + killed[1] + renumber + killed[2] + about("restored", "-", "w") + killed[3], "0a", [1, 3]),
+            (killed[1] + about("copied", "0a", "v") + killed[2] + f"{DAY} 01:00:00 - uucp - copied 0a\n" + killed[3], "0a", []),
+            (killed[1] + about("restored", "-", "w") + killed[2], "", []),
+            (killed[1] + init, "0a", []),
+        ):
+            self.put("log", text)
+            said = self.said(mark)
+            self.assertEqual((gone, bool(gone)), (sorted(said.gone), said.has_mark), text)
+        self.put("log", killed[9] + HERE + others + killed[7])
+        self.assertEqual((9, {}), (self.said().greatest, self.said().gone))
+
+    def test_what_stood_for_a_job_before_a_copy_was_put_back(self) -> None:
+        """1 was moved, and waits again then. 2 was moved, and what stood for it is done, so it is. 3 was handed on in pieces, of which one
+        waited. What goes later is done, also if another one stood for it before."""
+        moved = "".join(line(2, 10 + number, f"send -gN --once=mysite!{number}!again -- duke a b") for number in (1, 2))
+        piece = line(2, 13, f"exec -gN -- duke uuspool-piece {'0a' * 32}.9.3.3-{DAY}-12:00:00 0 exec rmail x").replace("ann", "unc!joe")
+        gone = line(2, 1, "kill 1") + line(2, 2, "kill 2") + line(2, 12, "settle") + line(2, 3, "done mysite x")
+        restored, second = about("restored", "0a", "w"), about("copied", "0b", "w")
+        for text, mark, wanted in (
+            (HERE + moved + piece + gone, "0a", ([1, 2, 3], [1, 3])),
+            (HERE + moved + piece + gone + restored + second, "0a", ([1, 2, 3], [1, 3])),
+            (HERE + moved + piece + gone + restored + second, "0b", ([], [])),
+            (HERE + moved + piece + gone + restored + second + line(3, 1, "settle"), "0a", ([1, 2, 3], [3])),
+            (HERE + moved + piece + gone + restored + second + line(3, 1, "settle"), "0b", ([1], [])),
+            (HERE + moved + piece + gone + restored + line(3, 3, "done mysite x"), "0a", ([1, 2, 3], [1])),
+            (HERE + moved + piece + gone + restored + line(3, 11, "settle"), "0a", ([1, 2, 3], [3])),
+            (HERE + moved + piece + gone + restored + line(3, 21, "send -gN --once=mysite!1!again -- phs a b") + line(3, 1, "kill 1"), "0a", ([1, 2, 3], [1, 3])),
+            (HERE + moved + piece + gone + restored + line(3, 21, "send -gN --once=mysite!1!again -- phs a b") + line(3, 1, "kill 1") + line(3, 21, "kill 21"), "0a", ([1, 2, 3], [3])),
+        ):
+            self.put("log", text)
+            said = self.said(mark)
+            self.assertEqual(wanted, (sorted(said.gone.keys() & {1, 2, 3}), sorted(said.lost)), text)
 
     def test_files_of_logrotate(self) -> None:
         names = ["log", "log.1", "log.10.gz", "log.2", "log-20261101", "log-20261101-1", "log-20261102.gz", "log.x", "log.1.old", "blog", "log.gz"]
         wanted = ["log-20261101", "log-20261101-1", "log-20261102.gz", "log.10.gz", "log.2", "log.1"]
         self.assertEqual(wanted, [it for it in logged.rotated(names, "log") if it not in ("log", "log.gz")])
-        self.put("log.2.gz", gzip.compress(line(1, 1, "kill 1").encode()))
+        self.put("log.2.gz", gzip.compress((HERE + line(1, 1, "kill 1")).encode()))
         self.put("log.1", line(2, 2, "kill 2"))
         self.put("log", line(3, 3, "kill 3"))
         self.assertEqual(([1, 2, 3], []), (sorted(self.said().gone), self.said().faults))
 
     def test_what_cannot_be_read(self) -> None:
-        self.put("log.3.gz", gzip.compress(line(1, 1, "kill 1").encode() * 100)[:-9])
+        self.put("log.3.gz", gzip.compress((HERE + line(1, 1, "kill 1") * 100).encode())[:-9])
         self.put("log.2.gz", "no gzip")
+        whole = gzip.compress(os.urandom(1000))
+        self.put("log.5.gz", whole[:20] + bytes(reversed(whole[20:])))
         os.mkfifo(f"{self.folder}/log.1")
         os.symlink(self.put("roots", line(1, 9, "kill 9")), f"{self.folder}/log.4")
         said = self.said()
         self.assertEqual([1], sorted(said.gone))
-        self.assertEqual(["log.4", "log.3.gz", "log.2.gz", "log.1"], [it.partition(":")[0].rpartition("/")[2] for it in said.faults])
-        self.assertEqual(1, len(logged.read("/nowhere/log", "", DAY).faults))
+        self.assertEqual(["log.5.gz", "log.4", "log.3.gz", "log.2.gz", "log.1"], [it.partition(":")[0].rpartition("/")[2] for it in said.faults])
+        self.assertEqual(1, len(logged.read("/nowhere/log", "", "w", "0a", [1]).faults))
 
     def test_a_file_of_holes_takes_no_memory(self) -> None:
         self.put("log", "x")
         os.truncate(f"{self.folder}/log", 1 << 42)
-        self.put("log.1", line(1, 1, "kill 1"))
+        self.put("log.1", HERE + line(1, 1, "kill 1"))
         with mock.patch.object(logged, "_MOST", 1 << 20):
             self.put("log.2.gz", gzip.compress(b"x" * (1 << 22)))
             said = self.said()
@@ -106,10 +156,76 @@ class Log(Folder):
         """root's file, to which the spool's user has a link."""
         os.chmod(self.folder, 0o755)
         self.put("roots", line(1, 9, "kill 9"), 0o600)
-        self.give(self.put("s/log.1", line(1, 1, "kill 1")))
+        self.give(self.put("s/log.1", HERE + line(1, 1, "kill 1")))
         os.symlink(f"{self.folder}/roots", f"{self.folder}/s/log")
-        said = logged.read(f"{self.folder}/s/log", pwd.getpwuid(1).pw_name, DAY)
+        said = logged.read(f"{self.folder}/s/log", pwd.getpwuid(1).pw_name, "w", "0a", [9])
         self.assertEqual(({}, 1), (said.gone, len(said.faults)))
+
+
+class History:
+    """Jobs that are queued, moved, handed on, done and killed, and copies that are made and put back, in any order. Each job has a
+    thing, which it keeps as it moves. The log says what the commands say there."""
+
+    def __init__(self, seed: int, path: str) -> None:
+        self.random, self.path = random.Random(seed), path
+        self.jobs: dict[int, int] = {}  # the thing of each job that waits
+        self.ended: set[int] = set()  # things that came to a neighbour, or were killed
+        self.copies: list[tuple[str, dict[int, int]]] = []
+        self.next, self.things = 1, 0
+        self.log: list[str] = []
+
+    def step(self) -> None:
+        does = self.random.choice(["queue", "queue", "move", "move", "hand_on", "end", "end", "copy", "put_back"])
+        if does in ("queue", "copy") or (self.copies if does == "put_back" else self.jobs):
+            getattr(self, does)()
+
+    def queue(self, line: str = "send -gN -- duke a b", thing: int | None = None) -> None:
+        self.things += thing is None
+        self.jobs[self.next] = self.things if thing is None else thing
+        self.log.append(globals()["line"](1, self.next, line))
+        self.next += 1
+
+    def move(self, how: str = "again", end: str = "kill") -> None:
+        number = self.random.choice(sorted(self.jobs))
+        self.queue(f"send -gN --once=mysite!{number}!{how} -- duke a b", self.jobs.pop(number))
+        self.log.append(line(1, number, end))
+
+    def hand_on(self) -> None:
+        self.move("onward", "done mysite")
+
+    def end(self) -> None:
+        number = self.random.choice(sorted(self.jobs))
+        self.ended.add(self.jobs.pop(number))
+        self.log.append(line(1, number, self.random.choice(["settle duke", "kill", "done duke"])))
+
+    def copy(self) -> None:
+        self.copies.append((f"{len(self.copies):04}", dict(self.jobs)))
+        self.log.append(about("copied", self.copies[-1][0], "w"))
+
+    def put_back(self) -> None:
+        """Does what `Restoration` does with what the log says."""
+        mark, jobs = self.random.choice(self.copies)
+        with open(self.path, "w", encoding="ascii") as file:
+            file.writelines(self.log)
+        said = logged.read(self.path, "", "w", mark, jobs)
+        self.jobs = {number: thing for number, thing in jobs.items() if number not in said.gone or number in said.lost and not said.lost[number].line}
+        for number in said.gone.keys() & said.lost.keys() - self.jobs.keys():
+            self.queue(" ".join(said.lost[number].line[1:]), jobs[number])
+        self.log.append(about("restored", mark, "w"))
+        self.expect(sorted(set(jobs.values()) - self.ended))
+
+    def expect(self, things: list[int]) -> None:
+        """Just these wait, each once."""
+        if sorted(self.jobs.values()) != things:
+            raise AssertionError(f"{things} should wait, and not {self.jobs}, after\n{''.join(self.log)}")
+
+
+class Histories(Folder):
+    def test_nothing_is_lost_and_nothing_comes_again(self) -> None:
+        for seed in range(300):
+            history = History(seed, f"{self.folder}/log")
+            for _ in range(seed % 60):
+                history.step()
 
 
 class Places(Folder):
@@ -127,7 +243,7 @@ class Places(Folder):
         return target
 
     def test_the_folders_are_exchanged(self) -> None:
-        with place.Place(self.path, "") as its:
+        with place.Place(self.path, "", "spool.db") as its:
             before = its.exchange(self.made(its), "spool.db")
         self.assertEqual((b"after", ["spool.db"]), (self.bytes_of("site/spool.db"), os.listdir(self.path)))
         self.assertEqual(["refused", "spool.db.aside"], sorted(os.listdir(before)))
@@ -137,35 +253,43 @@ class Places(Folder):
     def test_a_second_one_in_the_same_second(self) -> None:
         with mock.patch("uuspool_calls.clock.now", return_value=1_800_000_000):
             for _ in range(2):
-                with place.Place(self.path, "") as its:
+                with place.Place(self.path, "", "spool.db") as its:
                     its.exchange(self.made(its), "spool.db")
         self.assertEqual(2, sum(".before." in it for it in os.listdir(self.folder)))
 
     def test_what_fails_leaves_nothing(self) -> None:
-        with self.assertRaises(KeyError), place.Place(self.path, "") as its:
+        with self.assertRaises(KeyError), place.Place(self.path, "", "spool.db") as its:
             self.made(its)
             raise KeyError
         self.assertEqual((["after", "site"], b"before"), (sorted(os.listdir(self.folder)), self.bytes_of("site/spool.db")))
 
     def test_a_file_system_that_cannot_exchange(self) -> None:
         with mock.patch.object(kernel, "exchange", side_effect=OSError(22, "Invalid argument")), self.assertRaisesRegex(Failure, "no other folder can take the place of .*: put the copy back by hand"):
-            with place.Place(self.path, "") as its:
+            with place.Place(self.path, "", "spool.db") as its:
                 its.exchange(self.made(its), "spool.db")
         self.assertEqual((["after", "site"], b"before"), (sorted(os.listdir(self.folder)), self.bytes_of("site/spool.db")))
 
     def test_what_a_killed_run_left_is_removed_unless_it_goes_on(self) -> None:
         self.put("site.restoring/spool/spool.db", "x")
-        with place.Place(self.path, "") as its:
+        with place.Place(self.path, "", "spool.db") as its:
             room = its.begin()
             self.assertEqual([], os.listdir(room.handle))
-            with place.Place(self.path, "") as other, self.assertRaisesRegex(Failure, "another uuspool-restore works in"):
+            with place.Place(self.path, "", "spool.db") as other, self.assertRaisesRegex(Failure, "another uuspool-restore works in"):
                 other.begin()
+        self.put("site/log", "x")
+        self.put("site.before.1/spool/old", "x")
+        for name in "log", "old":
+            os.link(f"{self.path}/log", f"{self.folder}/site.before.1/spool/{name}.2")
+        os.link(f"{self.path}/log", f"{self.folder}/site.before.1/spool/log")
+        with place.Place(self.path, "", "spool.db") as its:
+            its.begin()
+        self.assertEqual(["log.2", "old", "old.2"], sorted(os.listdir(f"{self.folder}/site.before.1/spool")))
         os.symlink(self.folder, f"{self.path}.restoring")
-        with place.Place(self.path, "") as its, self.assertRaises(OSError):
+        with place.Place(self.path, "", "spool.db") as its, self.assertRaises(OSError):
             its.begin()
 
     def test_who_works_there(self) -> None:
-        with place.Place(self.path, "") as its:
+        with place.Place(self.path, "", "spool.db") as its:
             own = f"process {os.getpid()}"
             its.expect_nobody()
             for how in {"cwd": self.path}, {"cwd": f"{self.path}/refused"}, {"stdin": os.open(f"{self.path}/spool.db", os.O_RDONLY)}:
@@ -173,6 +297,15 @@ class Places(Folder):
                     with self.assertRaisesRegex(Failure, rf"^process {other.pid} \(.*\) has {self.path}"):
                         its.expect_nobody()
                     self.assertFalse([it for it in its.workers() if own in it])
+                    other.kill()
+            with mock.patch.object(place.os, "readlink", return_value=self.path), subprocess.Popen(["sleep", "60"], cwd="/") as other:
+                its.expect_nobody()  # (Its own mount may be at this path.)
+                other.kill()
+            self.put("site/spool.db-lock")
+            lock = os.open(f"{self.path}/spool.db-lock", os.O_RDWR)
+            for how, waits in ({"cwd": "/", "stdin": lock}, True), ({"cwd": self.path, "stdin": lock}, os.geteuid() == 0), ({"cwd": f"{self.path}/refused", "stdin": lock}, False):
+                with subprocess.Popen(["sleep", "60"], **how) as other:  # type: ignore[call-overload]
+                    self.assertEqual(waits, not its.workers(), how)
                     other.kill()
             self.put("site2/x")
             with subprocess.Popen(["sleep", "60"], cwd=f"{self.folder}/site2") as other:
@@ -182,21 +315,21 @@ class Places(Folder):
     def test_a_parent_that_others_write(self) -> None:
         os.chmod(self.folder, 0o777)
         with self.assertRaisesRegex(Failure, "others may write"):
-            place.Place(self.path, "")
+            place.Place(self.path, "", "spool.db")
         os.chmod(self.folder, 0o755)
         self.give(self.folder)
         with self.assertRaisesRegex(Failure, "belongs to another user"):
-            place.Place(self.path, "")
+            place.Place(self.path, "", "spool.db")
 
     def test_a_mount_point(self) -> None:
         with mock.patch.object(place, "_mount_of", side_effect=[b"1", b"2"]), self.assertRaisesRegex(Failure, "is a mount point, so that no other folder takes its place: put the copy back by hand"):
-            place.Place(self.path, "")
+            place.Place(self.path, "", "spool.db")
 
     def test_a_link_in_the_place_of_the_spool(self) -> None:
         """The spool's user has put it there: nothing but its name changes."""
         os.remove(f"{self.path}/spool.db")
         os.symlink(self.put("roots", "root's"), f"{self.path}/spool.db")
-        with place.Place(self.path, "") as its:
+        with place.Place(self.path, "", "spool.db") as its:
             before = its.exchange(self.made(its), "spool.db")
         self.assertTrue(os.path.islink(f"{before}/spool.db.aside"))
         self.assertEqual(b"root's", self.bytes_of("roots"))
@@ -216,16 +349,18 @@ class Sources(Folder):
 
     def test_what_it_has(self) -> None:
         with self.source() as its:
-            self.assertEqual(("w1", f"{DAY} 15:47:26"), (its.word, its.moment()))
+            self.assertEqual(("w1", ""), (its.word, its.mark))
             target = Target(f"{self.folder}/target")
             its.put_spool(target)
         self.assertEqual([b"x", b"y", b"w1\n"], [self.bytes_of(f"target/spool.db{end}") for end in ("", "-wal", "-word")])
-        os.rename(self.copy, f"{self.folder}/renamed")
-        self.copy = f"{self.folder}/renamed"
-        os.utime(f"{self.copy}/spool/spool.db", (0, 0))
-        os.utime(f"{self.copy}/spool/spool.db-wal", (86400, 86400))
-        with self.source() as its:
-            self.assertEqual("1970-01-02 00:00:00", its.moment())
+        for text in "0a\n", "0a 1 1\n":
+            self.put(f"{os.path.relpath(self.copy, self.folder)}/spool/copied", text)
+            with self.source() as its:
+                self.assertEqual("0a", its.mark)
+        self.put(f"{os.path.relpath(self.copy, self.folder)}/spool/spool.db-wal", "")
+        self.refuses("spool.db-wal has 0 bytes, and had 1 in the copy")
+        os.remove(f"{self.copy}/spool/spool.db-wal")
+        self.refuses("spool.db-wal is missing, and had 1 in the copy")
 
     def test_what_is_no_copy_of_this_site(self) -> None:
         self.put("mysite.20261128T154726Z/settings.toml", 'name = "unc"\n')

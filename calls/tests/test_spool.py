@@ -49,6 +49,12 @@ class Spools(Folder):
                 self.spool(Ended(status, output, errors)).ask("send")
             self.assertEqual((said, True, 0), (str(raised.exception), raised.exception.is_final, self.answers.pauses))
 
+    def test_a_fault_of_the_settings_or_of_the_clock_is_none_of_the_job(self) -> None:
+        for said in "uuspool: settings: name bad", "uuspool: time: MomentRange":
+            with self.assertRaises(SpoolError) as raised:
+                self.spool(*[Ended(2, b"", f"{said}\n".encode())] * 6).ask("send")
+            self.assertEqual((said, False, 5), (str(raised.exception), raised.exception.is_final, self.answers.pauses))
+
     def test_lists(self) -> None:
         self.assertEqual([Due("duke", "A"), Due("unc", "N")], self.spool(b"duke A 7\nunc N 3\n").due())
         self.assertEqual(["duke"], self.spool(b"duke - - 0 2026-11-28 10:00:00 due\nunc - - 60 2026-11-28 10:01:00 closed\nphs - - never closed\n").open_now())
@@ -114,3 +120,6 @@ class Journals(Folder):
         os.mkdir(f"{self.folder}/log")
         log.note("duke", "ann", 7, "says", "hello")
         self.assertRegex(said[0], rf"{self.folder}/log cannot be written, and lacks: \S+ \S+ duke ann 7 says hello")
+        os.mkfifo(f"{self.folder}/pipe")
+        Journal(f"{self.folder}/pipe", "UTC0", said.append).note("duke", "ann", 7, "says", "hello")  # (Nobody reads it.)
+        self.assertIn(f"{self.folder}/pipe cannot be written, and lacks: ", said[1])

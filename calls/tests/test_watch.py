@@ -153,6 +153,9 @@ class Metrics(Folder):
         self.assertEqual(len(set(kinds)), len(kinds))
         self.assertEqual({line.partition("{")[0] for line in lines if line[0] != "#"}, set(kinds))
 
+    def test_a_clock_that_is_behind_the_last_call(self) -> None:
+        self.assertIn('uuspool_wait_seconds{site="mysite",neighbour="duke"} 0', metrics.text(figures_of(Neighbour("duke", called=NOON + 50, free=NOON + 60))).splitlines())
+
     def test_names_are_escaped(self) -> None:
         self.assertIn('neighbour="a\\\\b\\"c\\nd"} 1', metrics.text(figures_of(Neighbour('a\\b"c\nd', 1))))
 

@@ -15,13 +15,14 @@ import stat
 import time
 from collections.abc import Iterator, Sequence
 
-from . import clock, files, options, restored, settings, turn
+from . import clock, files, logged, options, restored, settings, turn
 from .copies import Copier, Target
 from .errors import LATER, NOT_SET_UP, USAGE, Failure
+from .journal import Journal
 from .processes import Program
-from .session import Session, acting_as
+from .session import Session, acting_as, user_name
 from .site import find_from_anywhere, has_bytes, owner_of
-from .source import BESIDE, is_kept
+from .source import BESIDE, MARK, MOST_OF_A_TEXT, is_kept
 from .texts import is_number, one_line
 
 _USAGE = "usage: uuspool-backup [-k COPIES] DIR"
@@ -161,26 +162,36 @@ class Backup:
         name = f"{self._settings.name}.{time.strftime('%Y%m%dT%H%M%SZ', time.gmtime(clock.now()))}"
         with self._place.begun(name) as (chosen, target):
             seen = os.stat(self._settings.folder)
-            spool = target.folder("spool", seen)
+            spool, mark = target.folder("spool", seen), os.urandom(8).hex()
             with Copier([seen.st_uid], self._owner) as copier:
-                self._take_spool(spool, copier)
+                self._take_spool(spool, copier, f"{mark} {self._word()} {self._place.path}/{chosen}")
                 self._session.processes.check()
                 self._finish(copier)
             self._expect_word(spool)
             self._take_others(target)
             self._session.processes.check()
             self._check(f"{self._place.path}/{chosen}{_NEW}/spool")
+            spool.put_text(MARK, f"{mark} {self._sizes(spool)}\n", seen)
             target.sync()
             self._session.processes.check()
             self._place.keep(chosen)
         return f"{self._place.path}/{chosen}"
 
-    def _take_spool(self, target: Target, copier: Copier) -> None:
-        """Within one turn, copies the spool's files, and opens those beside it, so that they are of the same moment."""
+    def _word(self) -> str:
+        """The word of the spool, or `-`."""
+        with contextlib.suppress(OSError), acting_as(self._owner), files.closing(turn.opened(f"{self._settings.spool}-word", os.O_RDONLY)) as handle:
+            return os.pread(handle, MOST_OF_A_TEXT, 0).decode(errors="replace").strip() or "-"
+        return "-"
+
+    def _take_spool(self, target: Target, copier: Copier, line: str) -> None:
+        """Within one turn, copies the spool's files, and opens those beside it, so that they are of the same moment. The log gets
+        this line then. What it says behind that came later."""
         found, name = self._settings, os.path.basename(self._settings.spool)
         with turn.Turn(found.spool, self._session.setting("UUSPOOL_PATIENCE", 60), self._owner) as its_turn:
             its_turn.wait_for_it(self._pause)
             self._expect_no_journal()
+            with acting_as(self._owner):
+                Journal(found.log, found.zone, self._session.say).note("", user_name(os.geteuid()), "", logged.COPIED, line, lasts=True)
             with its_turn.database(found.spool, self._pause) as spool:
                 target.put(name, spool)
                 self._put(f"{found.spool}-wal", target, f"{name}-wal")
@@ -189,6 +200,11 @@ class Backup:
             for folder in BESIDE:
                 if os.path.isdir(f"{found.folder}/{folder}"):
                     copier.take(f"{found.folder}/{folder}", target.folder(folder), is_kept)
+
+    def _sizes(self, target: Target) -> str:
+        """The bytes of the copied files of the spool."""
+        name = os.path.basename(self._settings.spool)
+        return " ".join(str(os.stat(f"{name}{end}", dir_fd=target.handle).st_size) for end in ("", "-wal"))
 
     def _expect_word(self, target: Target) -> None:
         word = f"{self._settings.spool}-word"

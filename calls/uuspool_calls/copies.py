@@ -50,6 +50,13 @@ class Target:
             _make_like(handle, seen)
             os.utime(handle, ns=(seen.st_atime_ns, seen.st_mtime_ns))
 
+    def put_text(self, name: str, text: str, like: os.stat_result) -> None:
+        """A new file with a text, for its owner alone, who is that of another one, if this is root."""
+        with files.opened(name, _NEW, folder=self.handle) as handle:
+            files.write_all(handle, text.encode())
+            if os.geteuid() == 0:
+                os.fchown(handle, like.st_uid, like.st_gid)
+
     def sync(self) -> None:
         """Writes everything to the disk."""
         for part in self._parts:
@@ -150,9 +157,11 @@ class Copier:
                 elif stat.S_ISDIR(seen.st_mode) and path.count("/") >= _DEEPEST:
                     self.left_out.append(f"{path}/{name}: is in too many folders")
                 elif stat.S_ISDIR(seen.st_mode):
-                    self._enter(name, folder, f"{path}/{name}", target.folder(name), wanted)
+                    self._enter(name, folder, f"{path}/{name}", target.folder(name, seen), wanted)
                 elif stat.S_ISLNK(seen.st_mode):
                     os.symlink(os.readlink(name, dir_fd=folder), name, dir_fd=target.handle)
+                    if os.geteuid() == 0:
+                        os.chown(name, seen.st_uid, seen.st_gid, dir_fd=target.handle, follow_symlinks=False)
                 elif wanted is None or wanted(name):
                     self._open(name, folder, target, name, f"{path}/{name}")
 

@@ -30,7 +30,7 @@ from .texts import is_number
 _USAGE = "usage: uuspool-deliver [NUMBER..]"
 _KILLED = 128  # the least status of a process that a signal ended
 _NEW = 3600  # seconds in which a record's job may have just come
-_LOCK, _WORKS = ".lock", ".works"  # of a job, behind its number
+LOCK, _WORKS = ".lock", ".works"  # of a job, behind its number
 _MARGIN = 15  # seconds until a command that is ended has ended
 _TAKING = 30  # seconds for which a round waits for what neighbours brought
 _ROUND = 300  # seconds after which a round begins no more deliveries
@@ -87,7 +87,7 @@ def _round(site: Site, deliverer: "Deliverer", lock: files.Lock) -> int:
     with spool_needed(f"the spool cannot be asked what waits for {site.own}"):
         waiting = site.spool.waiting(site.own)
     _clean(site, waiting)
-    ended = _deliver_all(site, deliverer, due(site.folder, waiting, clock.now()), lock)
+    ended = _deliver_all(site, deliverer, due(site, waiting, clock.now()), lock)
     for number, status in ended:
         if status > _KILLED:
             deliverer.note_killed(number, status - _KILLED)
@@ -95,9 +95,9 @@ def _round(site: Site, deliverer: "Deliverer", lock: files.Lock) -> int:
     return LATER if any(status for _, status in ended) else told
 
 
-def _refuse_unfinished(site: Site) -> None:
+def _refuse_unfinished(site: Site, is_old: pieces.IsOld) -> None:
     """Files that never became whole are refused."""
-    for file in pieces.unfinished(f"{site.folder}/pieces"):
+    for file in pieces.unfinished(f"{site.folder}/pieces", is_old):
         about, piece = file.about, file.about.piece
         why = f"{file.count()} of {piece.total} pieces came, and no other one for {pieces.DAYS} days"
         try:
@@ -143,11 +143,11 @@ def _delivery(session: Session, deliverer: "Deliverer", number: int) -> Child:
     return Child(work)
 
 
-def due(folder: str, waiting: Sequence[Job], now: int) -> list[int]:
+def due(site: Site, waiting: Sequence[Job], now: int) -> list[int]:
     """The jobs to try now. Those that failed before come last, because they may take long."""
-    new, again = [], []
+    new, again, word = [], [], site.word()
     for job in waiting:
-        tries = records.Tries.read(f"{folder}/deliver", job, now)
+        tries = records.Tries.read(f"{site.folder}/deliver", word, job, now)
         if not tries.failed:
             new.append(job)
         elif not tries.is_later(now):
@@ -176,9 +176,9 @@ def _clean(site: Site, waiting: Sequence[Job]) -> None:
             with contextlib.suppress(OSError):
                 if os.stat(f"{folder}/{name}").st_mtime < before:
                     _forget(folder, number)
-    if refusals.is_time_to_look(site):
-        _refuse_unfinished(site)
-        refusals.forget_old(site)
+    if is_old := refusals.look(site):
+        _refuse_unfinished(site, is_old)
+        refusals.forget_old(site, is_old)
     if os.path.exists(f"{folder}/keys") and not refusals.has_untold(site):
         with contextlib.suppress(SpoolError):
             if jobs := site.spool.waiting():
@@ -188,9 +188,9 @@ def _clean(site: Site, waiting: Sequence[Job]) -> None:
 
 def _forget(folder: str, number: str) -> None:
     """Removes what is kept of a job, unless a process delivers it: the clock may have jumped since that began."""
-    with files.Lock(f"{folder}/{number}{_LOCK}") as lock:
+    with files.Lock(f"{folder}/{number}{LOCK}") as lock:
         if lock.take() and lock.is_current():
-            for end in "", _WORKS, _LOCK:
+            for end in "", _WORKS, LOCK:
                 files.remove(f"{folder}/{number}{end}")
 
 
@@ -210,7 +210,7 @@ class Deliverer:
     def deliver(self, number: int) -> int:
         """Tries a job, unless it is gone, or another process delivers it. One that hangs delays no
         round."""
-        with self._site.lock(f"deliver/{number}{_LOCK}") as lock:
+        with self._site.lock(f"deliver/{number}{LOCK}") as lock:
             parcel = self._site.spool.show(number) if lock.take() and lock.is_current() else None
             if parcel is None:
                 return 0
@@ -220,12 +220,12 @@ class Deliverer:
 
     def _try(self, parcel: Parcel) -> int:
         now = clock.now()
-        tries = records.Tries.read(self._folder, parcel.job, now)
+        tries = records.Tries.read(self._folder, self._site.word(), parcel.job, now)
         if tries.came:
             return self._finish(parcel.job, Outcome(tries.came), tries, now)
         try:
             with files.memory_file(parcel.data) as content:
-                outcome = self._hand_over(self._delivered(parcel.job, content), parcel.job)
+                outcome = self._hand_over(self._delivered(tries.of(parcel.job), content), parcel.job)
         except Refusal as refusal:
             return self.give_up(parcel, str(refusal))
         except Delay as delay:
@@ -238,11 +238,11 @@ class Deliverer:
 
     def note_killed(self, number: int, signal: int) -> None:
         """A delivery that was killed, perhaps since memory ran out, has failed for now."""
-        with self._site.lock(f"deliver/{number}{_LOCK}") as lock:
+        with self._site.lock(f"deliver/{number}{LOCK}") as lock:
             parcel = self._site.spool.show(number) if lock.take() and lock.is_current() else None
             if parcel:
                 now = clock.now()
-                tries = records.Tries.read(self._folder, parcel.job, now)
+                tries = records.Tries.read(self._folder, self._site.word(), parcel.job, now)
                 self._fail(parcel, tries, f"its delivery at {self._own} was killed by signal {signal}", now)
 
     def _hand_over(self, delivered: Delivered, job: Job) -> Outcome:
@@ -259,7 +259,7 @@ class Deliverer:
         """A file that the sender asked for goes back as a job of who asked, or in pieces."""
         if not job.sender or len(words) < 2:
             raise Refusal(f"a request for {self._own} itself, or without two names, asks for nothing")
-        with self._delivery.public_of(job.sender).opened(words[0]) as content, self._site.lock(f"deliver/{job.sender}.fetches{_LOCK}") as lock:
+        with self._delivery.public_of(job.sender).opened(words[0]) as content, self._site.lock(f"deliver/{job.sender}.fetches{LOCK}") as lock:
             # (Otherwise many find the same room.)
             if not lock.wait(_PATIENCE, self._site.session.processes.pause):
                 raise Delay(f"another file is being queued for {job.sender}, so it gets {words[0]} later")
@@ -288,10 +288,11 @@ class Deliverer:
 
     def _queue(self, system: str, job: Delivered, why: str) -> None:
         """Queues for a neighbour what a job brought or asked for, once."""
-        key = f"{self._own}!{job.name.split('!')[1]}!{why}"
+        number = int(job.name.split("!")[1])
+        key = f"{self._own}!{number}!{why}"
         what = outgoing.Parcelled(system, job.user, job.grade, key, outgoing.mark_of(job.name), (job.kind, *job.words))
         try:
-            outgoing.queue(self._site, what, job.content)
+            outgoing.queue(self._site, what, job.content, partial(self._note_begun, number))
         except SpoolError as error:
             # (Before a stop it was queued, and the file has changed since.)
             if error.status == 1 and str(error).endswith("Differs"):
@@ -299,6 +300,13 @@ class Deliverer:
             if error.is_final:
                 raise Refusal(f"{job.words[0]} cannot be sent from {self._own}: {error}") from None
             raise Delay(f"{job.words[0]} cannot be sent from {self._own} now: {error}") from None
+
+    def _note_begun(self, number: int) -> None:
+        """Pieces have the moment of their job in their mark, and in their bytes if they are mail. So it is noted, because after a
+        stop the same pieces have to be queued."""
+        if parcel := self._site.spool.show(number):
+            with self._site.writing("deliver"):
+                records.Tries.read(self._folder, self._site.word(), parcel.job, clock.now()).write(self._folder, number)
 
     def give_up(self, parcel: Parcel, why: str) -> int:
         """Refuses a job, and if it is a piece, its file as far as it came. If that can't be now it waits, and the jobs

@@ -98,7 +98,7 @@ class Delivery:
     def forget(self, job: Delivered) -> None:
         """Forgets the file that was delivered with this piece."""
         with self._held(job) as file:
-            if file.about.came == job.name:
+            if file.about.came_with(job.name):
                 file.forget()
 
     def _take_piece(self, job: Delivered) -> Outcome:
@@ -107,7 +107,7 @@ class Delivery:
         kind, *words = piece.words
         whole = job._replace(kind=kind, words=tuple(words))
         with self._held(job) as file:
-            if file.about.came == job.name:
+            if file.about.came_with(job.name):
                 return Outcome(file.about.what, is_last=True, wishes=Wishes.read(words[2:] if kind == "send" else ()))
             if file.about.came:
                 return Outcome(f"{piece.place} of {whole.what}", "came-before")
@@ -150,7 +150,7 @@ class Delivery:
     def _words(self, job: Delivered) -> list[str]:
         """The words of a command. What comes for this site's own name and a path is for that path."""
         name, *words = job.words
-        return [forward.behind(self._own, it) for it in words] if job.sender and name == MAIL else words
+        return [forward.behind(f"{self._session.etc}/forward", self._own, it) for it in words] if job.sender and name == MAIL else words
 
     def _command(self, job: Delivered) -> commands.Command:
         name, words = job.words[0], self._words(job)

@@ -128,6 +128,11 @@ def fate(said: list[str], job: Job, name: str) -> Fate:
     return Fate(went, why)
 
 
+def was_queued(said: list[str], name: str) -> bool:
+    """Whether the log has the line with which it named a job."""
+    return any(text.startswith("Queuing ") and name in text for text in said)
+
+
 def _went(text: str, job: Job, name: str) -> bool:
     if job.kind == "exec" and not name:
         return text.startswith(f"Sending {' '.join(job.words)} (D.")

@@ -4,6 +4,7 @@ from collections.abc import Iterator
 
 # As in sysexits.h.
 USAGE, REFUSED, LATER, NOT_SET_UP = 64, 69, 75, 78
+_OF_THE_SITE = "uuspool: settings: ", "uuspool: time: MomentRange"  # what status 2 says if no word is wrong
 
 
 class Failure(Exception):
@@ -28,8 +29,8 @@ class SpoolError(Exception):
     @property
     def is_final(self) -> bool:
         """Whether the spool read the line and would say the same again: it refused it, or the words
-        are wrong. Otherwise the spool failed."""
-        return self.status in (1, 2)
+        are wrong. Otherwise the spool failed, or somebody has to correct the settings or the machine's clock."""
+        return self.status == 1 or (self.status == 2 and not str(self).startswith(_OF_THE_SITE))
 
 
 @contextlib.contextmanager

@@ -2,9 +2,12 @@
 letter before that, after so many days, that it still waits. The status is 75 if a job can't be refused now, or
 a user can't be told.
 
+A run keeps its moment and the greatest number of a job that waited then. A job with a greater number was queued after that
+run, whatever its date says, because the clock may have been wrong when it was queued.
+
 If the clock seems to have jumped since the last run, which would make all jobs old, this run does nothing, and says so
 with the status 75."""
-from collections.abc import Sequence
+from collections.abc import Iterable, Sequence
 
 from . import clock, files, moves
 from .errors import LATER, USAGE, Failure, spool_needed
@@ -14,12 +17,21 @@ from .refusals import Refuser, forget_warnings, tell, warn
 from .session import Session
 from .site import Site, enter
 from .texts import is_number
+from .values import Any, NamedTuple
 
 _USAGE = "usage: uuspool-expire [-w DAYS] DAYS"
 _DAY = 86400
 _DRIFT = _DAY  # by which a clock may be corrected between two runs, as that of a machine that is paused for the night
 _GAP = 90 * _DAY  # between two runs, if the machine was started meanwhile
-_LAST = "refused/.expired"  # when the last run was
+_LAST = "refused/.expired"  # what is kept of the last run
+_MOST_SEEN = 400  # earlier runs that are known, one a day
+
+
+class Seen(NamedTuple):
+    """What a run saw: the greatest number of the jobs that waited then, or 0."""
+
+    moment: int
+    number: int
 
 
 def run(session: Session, words: Sequence[str]) -> int:
@@ -27,14 +39,18 @@ def run(session: Session, words: Sequence[str]) -> int:
     days, warned = _read(words)
     site = enter(session)
     session.processes.catch_stops()
-    if (seconds := _jumped(site)) is not None:
-        raise Failure(LATER, f"the clock jumped by {seconds // _DAY} days since the last run: if it is right now, run this again")
+    last = _Last.read(site)
+    if last.jump is not None:
+        last.write(site)
+        raise Failure(LATER, f"the clock jumped by {last.jump // _DAY} days since the last run: if it is right now, run this again")
     moves.finish_all(site)
     with spool_needed("the spool cannot be asked what waits"):
         jobs = site.spool.waiting()
-    all_done = [_refuse(site, job, days) for job in older(site, jobs, days)]
+    last = last.with_jobs(jobs)
+    last.write(site)
+    all_done = [_refuse(site, job, days) for job in older(site, jobs, days, last.seen)]
     if warned is not None:
-        all_done += [_warn(site, job, days) for job in older(site, jobs, warned)]
+        all_done += [_warn(site, job, days) for job in older(site, jobs, warned, last.seen)]
     forget_warnings(site, {name_of(job) for job in jobs})
     told = tell(site)
     return told if all(all_done) else LATER
@@ -49,25 +65,57 @@ def _read(words: Sequence[str]) -> tuple[int, int | None]:
     raise Failure(USAGE, _USAGE)
 
 
-def _jumped(site: Site) -> int | None:
-    """By how many seconds the clock was set since the last run, if it was. If the machine was started meanwhile, nobody knows
-    how long that took, and only a long time counts."""
-    now, running, boot = clock.now(), clock.running(), clock.boot()
-    last = files.read_record(f"{site.folder}/{_LAST}")
-    with site.writing("refused"):
-        files.write_record(f"{site.folder}/{_LAST}", {"now": now, "running": running, "boot": boot})
-    if not isinstance(last.get("now"), int) or not isinstance(last.get("running"), float):
-        return None
-    runs_on = last.get("boot") == boot
-    jump = now - last["now"] - (int(running - last["running"]) if runs_on else 0)
-    return None if -_DRIFT <= jump <= (_DRIFT if runs_on else _GAP) else jump
+class _Last(NamedTuple):
+    """What is kept of the last run, as this one has it."""
+
+    now: int
+    running: float
+    boot: str
+    seen: tuple[Seen, ...]  # what the runs until now saw, with moments as the clock would show them that is right now
+    jump: int | None  # by how many seconds the clock was set since the last run, if it was
+
+    @staticmethod
+    def read(site: Site) -> "_Last":
+        """If the machine was started since the last run, nobody knows how long that took, and only a long time counts as a
+        jump. Time of which nobody knows whether it passed makes no job older."""
+        now, running, boot = clock.now(), clock.running(), clock.boot()
+        kept = files.read_record(f"{site.folder}/{_LAST}")
+        if not isinstance(kept.get("now"), int) or not isinstance(kept.get("running"), float):
+            return _Last(now, running, boot, (), None)
+        runs_on = kept.get("boot") == boot
+        set_by = now - kept["now"] - (int(running - kept["running"]) if runs_on else 0)
+        is_jump = not -_DRIFT <= set_by <= (_DRIFT if runs_on else _GAP)
+        lost = set_by if is_jump or runs_on else min(0, set_by)
+        return _Last(now, running, boot, tuple(it._replace(moment=it.moment + lost) for it in _seen_in(kept)), set_by if is_jump else None)
+
+    def with_jobs(self, jobs: Iterable[Job]) -> "_Last":
+        """The same with what this run sees. Of the runs of a day only the first is known, and the last of all."""
+        before = self.seen
+        if len(before) > 1 and before[-1].moment - before[-2].moment < _DAY:
+            before = before[:-1]
+        now = Seen(self.now, max((job.number for job in jobs), default=0))
+        return self._replace(seen=(*before, now)[-_MOST_SEEN:])
+
+    def write(self, site: Site) -> None:
+        """Keeps it for the next run."""
+        with site.writing("refused"):
+            files.write_record(f"{site.folder}/{_LAST}", {"now": self.now, "running": self.running, "boot": self.boot, "seen": self.seen})
 
 
-def older(site: Site, jobs: Sequence[Job], days: int) -> list[Job]:
-    """The jobs for neighbours that were queued so many days ago, by the site's clock. Of a file its newest piece counts."""
-    before = clock.shown(site.settings.zone, max(0, clock.now() - days * _DAY))
+def _seen_in(kept: dict[str, Any]) -> list[Seen]:
+    """What is kept of earlier runs. (Older versions kept nothing.)"""
+    seen = kept.get("seen")
+    return [Seen(*it) for it in seen if isinstance(it, list) and [type(word) for word in it] == [int, int]] if isinstance(seen, list) else []
+
+
+def older(site: Site, jobs: Sequence[Job], days: int, seen: Iterable[Seen] = ()) -> list[Job]:
+    """The jobs for neighbours that were queued so many days ago, by the site's clock, unless one of these runs since then
+    shows that they weren't there yet. Of a file its newest piece counts."""
+    since = max(0, clock.now() - days * _DAY)
+    before = clock.shown(site.settings.zone, since)
+    there = min((it.number for it in seen if it.moment > since), default=None)
     theirs = [job for job in jobs if job.system != site.own]
-    newer = {name_of(job) for job in theirs if f"{job.day} {job.hour}" >= before}
+    newer = {name_of(job) for job in theirs if f"{job.day} {job.hour}" >= before or (there is not None and job.number > there)}
     return [job for job in theirs if name_of(job) not in newer]
 
 

@@ -4,7 +4,7 @@ A line has a neighbour, and the systems to which its mail is handed on. A word `
 this site's mailer may carry it, and `*` leaves all of it to the mailer. On a line of this site's own name, `@DOMAIN` is
 a domain of this site."""
 import os
-from collections.abc import Sequence
+from collections.abc import Collection, Sequence
 
 from .errors import Refusal
 from .files import read_bytes
@@ -41,17 +41,26 @@ def _said(words: Sequence[str]) -> Forward:
 def expect_allowed(path: str, own: str, neighbour: str, addresses: Sequence[str]) -> None:
     """Refusal unless this site takes a neighbour's mail for each of these addresses."""
     forward = read(path, neighbour)
-    domains = forward.domains | _own_domains(path, own)
+    ours = _own_domains(path, own)
+    domains = forward.domains | ours
     for address in addresses:
-        if not (forward.is_all or _is_allowed(behind(own, address), forward.systems, domains)):
+        if not (forward.is_all or _is_allowed(_behind(own, ours, address), forward.systems, domains)):
             raise Refusal(f"{own} takes no mail of {neighbour} for {address}, which is no user of {own}: {path} says what is handed on")
 
 
-def behind(own: str, address: str) -> str:
-    """An address without this site's own name before it, as RFC 976 has it."""
+def behind(path: str, own: str, address: str) -> str:
+    """An address as this site's mailer, or the next site, gets it: without this site's own name before it. What comes for a
+    domain of this site and a user, as an envelope has a sender, is for the user at that domain (RFC 976)."""
+    return _behind(own, _own_domains(path, own), address) if "!" in address else address
+
+
+def _behind(own: str, ours: Collection[str], address: str) -> str:
+    import re  # (loaded late, since only deliveries of mail need it)
+
     while (rest := address.removeprefix(f"{own}!")) not in ("", address):
         address = rest
-    return address
+    domain, _, user = address.partition("!")
+    return f"{user}@{domain}" if "." in domain and domain.lower() in ours and re.fullmatch(_USER, user) else address
 
 
 def next_hop(path: str, neighbour: str, addresses: Sequence[str]) -> str:

@@ -10,11 +10,12 @@ from typing import Protocol
 from . import files
 from .carriers import BY_BUNDLES, BY_JOBS, NO_CALL, TAYLORS, entry_of
 from .errors import NOT_SET_UP, USAGE, Failure
-from .session import Session
+from .handover import handed_in
+from .session import Session, acting_as
 from .site import find_from_anywhere, owner_of
 from .taylor import Taylor
 from .taylorsys import Line, SysFile, System, lines_in, queued_here
-from .texts import printable
+from .texts import is_name, printable
 from .values import NamedTuple
 
 _USAGE = "usage: uuspool-setup --from-taylor [-k] uucico|taylor [NAME..]"
@@ -177,9 +178,14 @@ class TakeOver:
             )
 
     def tell_waiting(self, names: Sequence[str]) -> None:
-        """Prints what waits in Taylor's spool, and how each job would be queued here."""
-        taylor = Taylor(self._session, owner=self._owner or owner_of(find_from_anywhere(self._session)))
-        jobs = [job for job in taylor.waiting() if not names or job.system in names]
+        """Prints what waits in Taylor's spool, and how each job would be queued here, but for what this site gave it."""
+        found = find_from_anywhere(self._session)
+        taylor = Taylor(self._session, owner=self._owner or owner_of(found))
+        waiting = [job for job in taylor.waiting() if not names or job.system in names]
+        systems = filter(is_name, {job.system for job in waiting})
+        with acting_as(self._owner or owner_of(found)):
+            ours = [it.id for system in systems for it in handed_in(f"{found.folder}/taylor/{system}")]
+        jobs = [job for job in waiting if job.id not in ours]  # (Those wait here, too.)
         if jobs:
             self._session.print("What waits in Taylor's spool goes with Taylor's next call. The line below a job queues it here instead:")
         spool = taylor.spool() if jobs else ""

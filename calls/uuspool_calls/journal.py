@@ -7,6 +7,8 @@ from . import clock
 from .files import opened
 from .texts import printable
 
+_ADD = os.O_WRONLY | os.O_APPEND | os.O_CREAT | os.O_NONBLOCK  # (nobody waits for who reads a pipe)
+
 
 class Journal:
     """The log of a site, by the site's clock. If it can't be written, the line is printed,
@@ -15,15 +17,18 @@ class Journal:
     def __init__(self, path: str, zone: str, say: Callable[[str], None]) -> None:
         self._path, self._zone, self._say = path, zone, say
 
-    def note(self, system: str, user: str, job: int | str, how: str, words: str) -> None:
-        """Adds a line, with `-` for a missing word. It makes no log in another user's folder."""
+    def note(self, system: str, user: str, job: int | str, how: str, words: str, lasts: bool = False) -> None:
+        """Adds a line, with `-` for a missing word, and if it has to last, no power cut takes it. It makes no log in another user's
+        folder."""
         with contextlib.suppress(OSError):
             if os.stat(os.path.dirname(self._path)).st_uid != os.geteuid():
                 return
         moment = clock.shown(self._zone, clock.now())
         line = printable(f"{moment} {system or '-'} {user or '-'} {job or '-'} {how.replace(' ', '-')} {words}")
         try:
-            with opened(self._path, os.O_WRONLY | os.O_APPEND | os.O_CREAT) as handle:
+            with opened(self._path, _ADD) as handle:
                 os.write(handle, f"{line}\n".encode())
+                if lasts:
+                    os.fsync(handle)
         except OSError:
             self._say(f"{self._path} cannot be written, and lacks: {line}")

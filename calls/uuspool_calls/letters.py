@@ -1,7 +1,9 @@
 """Letters to the users of jobs."""
+import contextlib
+import os
 from collections.abc import Sequence
 
-from . import forward
+from . import files, forward
 from .errors import Refusal, SpoolError
 from .jobs import Job
 from .processes import Program
@@ -14,6 +16,7 @@ _NULL = "<>"  # the sender in the envelope, so that no mailer sends a letter abo
 _LIMIT = 60  # seconds for the mailer
 PAUSE = 600  # seconds until a mailer that took no letter is asked again, by what is done each minute
 _MOST_WAITING = 1000  # letters for a neighbour, above which no more are written to it
+_MOST_NOTED = 1 << 16  # bytes of their numbers, of which the last are those that wait
 _SHOWN_BYTES, _SHOWN_LINES, _SHOWN_JOBS = 2000, 20, 100
 
 
@@ -117,17 +120,36 @@ class Mailroom:
                 self._site.log.note(system, user, "", "not-told", f"{_MOST_WAITING} letters wait for {system}")
                 return True
             if key:
-                spool.ask(f"--as={_FROM}", "mail", f"--once={key}", "--", user, given=text)
+                answer = spool.ask(f"--as={_FROM}", "mail", f"--once={key}", "--", user, given=text)
             else:
-                spool.ask_once(f"--as={_FROM}", "mail", "--", user, given=text)
+                answer = spool.ask_once(f"--as={_FROM}", "mail", "--", user, given=text).decode()
         except SpoolError:
             return False
+        self._note(system, answer)
         return True
 
     def _has_many(self, system: str) -> bool:
         """Whether so many letters wait for a neighbour that it hears of no more jobs, since it may have them made without end."""
         spool = self._site.spool
-        return spool.queued(system).jobs >= _MOST_WAITING and sum(it.is_letter for it in spool.waiting(system)) >= _MOST_WAITING
+        if spool.queued(system).jobs < _MOST_WAITING:
+            return False
+        ours = set(files.read_end(self._noted(system), _MOST_NOTED).split())
+        return sum(b"%d" % it.number in ours for it in spool.waiting(system)) >= _MOST_WAITING
+
+    def _noted(self, system: str) -> str:
+        return f"{self._site.folder}/refused/.letters-{system}.numbers"
+
+    def _note(self, system: str, answer: str) -> None:
+        """Keeps the number of a letter for a neighbour. (Its user doesn't tell it from other mail, because mailers give that user to
+        what has no sender.)"""
+        word, _, number = answer.strip().partition(" ")
+        path = self._noted(system)
+        with contextlib.suppress(OSError):
+            if word == "job":
+                with files.opened(path, os.O_WRONLY | os.O_APPEND | os.O_CREAT) as handle:
+                    files.write_all(handle, f"{number}\n".encode())
+            if (seen := files.look(path)) and seen.st_size > _MOST_NOTED:
+                files.replace(path, files.read_end(path, _MOST_NOTED // 2).partition(b"\n")[2])
 
     def _mail(self, user: str, text: bytes) -> bool:
         words = [self._mailer, "-i", "-f", _NULL, "--", user]

@@ -1,10 +1,14 @@
-"""What the log says of the jobs of a spool: which are gone, which were queued anew, and the greatest number that was given. The file
-is read, and those that logrotate made of it, oldest first."""
+"""What the log says of the jobs of a copy since it was made: which are gone, which were queued anew, and the greatest number that
+was given. The file is read, and those that logrotate made of it, oldest first.
+
+`uuspool-backup` writes a line for each copy, and `uuspool-restore` for each that it puts back: the mark of the copy, and the word of its
+spool. They say which lines count. No clock does, and no line about another spool. If the log has no line of a copy, none
+counts, because a job that comes twice is better than none."""
 import contextlib
-import itertools
 import os
 import re
-from collections.abc import Iterator
+import zlib
+from collections.abc import Collection, Iterable, Iterator
 
 from . import turn
 from .session import acting_as
@@ -12,8 +16,13 @@ from .values import Any, NamedTuple
 
 _MOST = 1 << 28  # bytes of a file, from its end
 _MOST_OF_A_LINE = 1 << 16
+_MOST_FILES = 100  # the newest
+_MOST_ANEW = 1 << 20  # jobs that stand for others
 _FOLDER = os.O_RDONLY | os.O_DIRECTORY | os.O_CLOEXEC
 _ENDS = re.compile(r"(?:\.([0-9]{1,4})|-([0-9]{8}(?:-[0-9]+)?))?(\.gz)?\Z")  # of a file that logrotate made
+COPIED, RESTORED = "copied", "restored"  # the lines about copies
+_COPIES = (COPIED.encode(), RESTORED.encode())
+_OTHERS = (b"init", b"renumber")  # the lines after which another spool may be there
 _GOES = (b"settle", b"done", b"kill")  # the lines that remove a job
 _QUEUES = (b"send", b"exec", b"request")
 _ANEW = re.compile(rb"-g[!-~] --once=[!-~]+!([1-9][0-9]{0,9})!(again|onward|request) -- ([!-~]+(?: [!-~]+)*)\n?\Z")  # what stands for the job of this number
@@ -35,63 +44,113 @@ class Anew(NamedTuple):
 
 
 class Said(NamedTuple):
-    """What the log says of a spool."""
+    """What the log says of jobs since a copy was made, or put back for the first time."""
 
     gone: dict[int, Line]
-    anew: dict[int, Anew]  # by the number of the job for which it stands
+    lost: dict[int, Anew]  # those of them that wait again, because others stood for them, none of which is done: the last one
     delivered: set[int]  # jobs that were delivered here, also the pieces with which files were
-    greatest: int  # number of a job, or 0
+    greatest: int  # number of a job of any spool, or 0
+    has_mark: bool  # whether it has a line of the copy. Otherwise it says nothing of its jobs
     faults: list[str]  # what couldn't be read, and why
 
-    def waits(self, number: int) -> bool:
-        """Whether a job, or the last one that stands for it, isn't gone."""
-        while number in self.gone and number in self.anew:
-            number = self.anew[number].number
-        return number not in self.gone
 
-    def lost(self, number: int, first: int) -> Anew | None:
-        """The job that stands for one which is gone, if that one isn't gone, too, and a copy lacks it, which has the numbers before
-        the first. It has the line of the last one that was queued anew before one was handed on."""
-        lines: list[tuple[str, ...]] = []
-        while number in self.gone and (its := self.anew.get(number)):
-            lines.append(its.line)
-            number = its.number
-        if not lines or number in self.gone or number < first:
-            return None
-        return Anew(number, ((), *itertools.takewhile(bool, lines))[-1])
-
-
-def read(path: str, owner: str, moment: str) -> Said:
-    """What the log at a path says of the spool that there was at a moment. Each `init` begins another spool. For root the
-    owner of the spool opens the files, who may put links there."""
-    gone: dict[int, Line] = {}
-    anew: dict[int, Anew] = {}
-    pieces: dict[int, list[int]] = {}
-    delivered: set[int] = set()
+def read(path: str, owner: str, word: str, mark: str, jobs: Iterable[int]) -> Said:
+    """What the log at a path says of jobs of the spool with this word since a copy of it was made or put back, whose lines have
+    this mark. For root the owner of the spool opens the files, who may put links there."""
     faults: list[str] = []
-    greatest = 0
+    reading = _Reading(word, mark, frozenset(jobs))
     for words in _lines(path, owner, faults):
-        at = b" ".join(words[:2]).decode(errors="replace")
-        if words[5:7] == [b"done", b"init"]:
-            if at > moment:
-                break
-            gone, anew, pieces, delivered, greatest = {}, {}, {}, set(), 0
+        reading.take(words)
+    return reading.said(faults)
+
+
+class _Reading:
+    """What the lines so far say. A line is about the spool if the last copy that was made or put back before it is the spool's, and
+    no other spool was made since. Those before the first line of the copy only say which jobs stand for each other. Only jobs of the copy
+    are followed, and those that stand for them or for the same ones, which have greater numbers."""
+
+    def __init__(self, word: str, mark: str, jobs: frozenset[int]) -> None:
+        self._word, self._mark, self._jobs, self._followed = word.encode(), mark.encode(), jobs, set(jobs)
+        self._gone: dict[int, Line] = {}
+        self._done: set[int] = set()  # those for which none stood when they went
+        self._anew: dict[int, Anew] = {}  # what stood for each, the last time
+        self._stands_for: dict[int, int] = {}  # for which one each stood
+        self._pieces: dict[int, list[list[int]]] = {}  # in which each was handed on, once or again
+        self._moved: set[int] = set()  # those for which one stands since a copy was put back last
+        self._delivered: set[int] = set()
+        self._greatest = 0
+        self._has_mark = self._is_its = False
+
+    def take(self, words: list[bytes]) -> None:
+        """Takes the next line."""
+        if words[5] in _COPIES:
+            self._take_copy(words)
+        elif words[5] == b"done" and words[6] in _OTHERS:
+            self._is_its = False
         elif words[4].isdigit():
             number = int(words[4])
-            greatest = max(greatest, number)
+            self._greatest = max(self._greatest, number)
+            if self._is_its:
+                self._take_job(number, words)
+
+    def _take_copy(self, words: list[bytes]) -> None:
+        self._is_its = len(words) > 7 and words[7].split()[:1] == [self._word]
+        if self._is_its and words[6] == self._mark and not self._has_mark:
+            self._has_mark, self._followed = True, set(map(self._first, self._jobs))
+        if self._is_its and words[5] == RESTORED.encode():
+            self._moved.clear()
+
+    def _take_job(self, number: int, words: list[bytes]) -> None:
+        if found := _stands_for(words):
+            of, anew = found
+            is_known = len(self._stands_for) < _MOST_ANEW  # (Otherwise the other one waits.)
+            if self._has_mark and self._first(of) in self._followed:
+                self._moved.add(of)
+                self._anew |= {of: anew} if is_known else {}
+            self._stands_for |= {number: of} if is_known else {}
+        elif (of := _is_piece_of(words)) and self._has_mark and self._first(of) in self._followed:
+            if of not in self._moved or of not in self._pieces:
+                self._pieces.setdefault(of, []).append([])
+            self._pieces[of][-1].append(number)
+            self._moved.add(of)
+            self._followed.add(number)
+        elif self._has_mark and self._first(number) in self._followed:
             if words[5] == b"delivered":
-                delivered.add(number)
+                self._delivered.add(number)
             elif words[6] in _GOES:
-                gone[number] = Line(at, words[6].decode())
-            elif found := _stands_for(words):
-                anew[found[0]] = found[1]
-            elif of := _is_piece_of(words):
-                pieces.setdefault(of, []).append(number)
-    said = Said(gone, anew, delivered, greatest, faults)
-    for of, numbers in pieces.items():
-        if left := [it for it in numbers if said.waits(it)]:
-            anew[of] = Anew(max(left), ())
-    return said
+                self._gone[number] = Line(b" ".join(words[:2]).decode(errors="replace"), words[6].decode())
+                self._done |= {number} - self._moved
+
+    def said(self, faults: list[str]) -> Said:
+        """What all lines say. Jobs that stand for each other are one thing. If one of them is done, all are. Otherwise one waits: one that
+        isn't gone, or else the last one that the copy has."""
+        done = {self._first(it): self._gone[it] for it in self._done}
+        for number, pieces in sorted(self._pieces.items(), reverse=True):
+            if any(all(self._first(it) in done for it in its) for its in pieces):
+                done[self._first(number)] = self._gone.get(number, Line("", "done"))
+        kept: dict[int, int] = {}  # of the jobs of the copy that stand for each other, the one that waits
+        for number in sorted(self._jobs, key=lambda it: (it not in self._gone, it)):
+            kept[self._first(number)] = number
+        gone = {it: done.get(self._first(it)) or self._gone[it] for it in self._jobs if it in self._gone or self._first(it) in done}
+        lost = {it: self._last(it, done) for it in gone if self._first(it) not in done and kept[self._first(it)] == it}
+        return Said(gone, lost, self._delivered, self._greatest, self._has_mark, faults)
+
+    def _first(self, number: int) -> int:
+        """The first of the jobs that stand for each other."""
+        while number in self._stands_for:
+            number = self._stands_for[number]
+        return number
+
+    def _last(self, number: int, done: Collection[int]) -> Anew:
+        """The last one, with the line of the last one that was queued anew before one was handed on."""
+        line: tuple[str, ...] = ()
+        is_handed_on = False
+        while number in self._anew:
+            number, its = self._anew[number]
+            is_handed_on = is_handed_on or not its
+            line = line if is_handed_on else its
+        left = [it for it in self._pieces.get(number, [[]])[-1] if self._first(it) not in done]
+        return Anew(max((self._last(it, done).number for it in left), default=number), line)
 
 
 def _stands_for(words: list[bytes]) -> tuple[int, Anew] | None:
@@ -112,16 +171,16 @@ def _is_piece_of(words: list[bytes]) -> int:
 
 
 def _lines(path: str, owner: str, faults: list[str]) -> Iterator[list[bytes]]:
-    """The words of each line that says that something was done, or a job delivered: two of the moment, the system, the user, the
-    number, `done` or `delivered`, and what."""
+    """The words of each line that says that something was done, a job delivered, or a copy made or put back: two of the moment, the
+    system, the user, the number, how, and what."""
     for file in _opened(path, owner, faults):
         with file:
             try:
                 while line := file.readline(_MOST_OF_A_LINE):
                     words = line.split(maxsplit=7)
-                    if len(words) > 6 and words[5] in (b"done", b"delivered") and len(words[4]) < 20:
+                    if len(words) > 6 and words[5] in (b"done", b"delivered", *_COPIES) and len(words[4]) < 20:
                         yield words
-            except (OSError, EOFError, ValueError) as error:
+            except (OSError, EOFError, ValueError, zlib.error) as error:
                 faults.append(f"{file.name}: {error}")
 
 
@@ -135,10 +194,10 @@ def _opened(path: str, owner: str, faults: list[str]) -> Iterator["_File"]:
             faults.append(f"{folder}: {error.strerror}")
             return
     try:
-        for found in rotated(os.listdir(handle), name):
+        for found in rotated(os.listdir(handle), name)[-_MOST_FILES:]:
             try:
-                with acting_as(owner):
-                    opened = turn.opened(found, os.O_RDONLY, handle)
+                with acting_as(owner):  # (A restoration that was killed may have left a second name.)
+                    opened = turn.opened(found, os.O_RDONLY, handle, any_names=True)
             except OSError as error:
                 faults.append(f"{folder}/{found}: {error.strerror}")
                 continue

@@ -21,7 +21,7 @@ _OF_NEIGHBOURS = (
     _Of("oldest_job_timestamp_seconds", "When the oldest job was queued.", lambda it, site: it.oldest if it.jobs else None),
     _Of("failed_calls", "Calls that failed in a row.", lambda it, site: it.failed),
     _Of("last_call_timestamp_seconds", "When the last call ended.", lambda it, site: it.called or None),
-    _Of("wait_seconds", "Seconds for which it is left alone after a call.", lambda it, site: max(0, it.free - site.now)),
+    _Of("wait_seconds", "Seconds for which it is left alone after a call.", lambda it, site: max(0, it.free - site.now) if it.called <= site.now else 0),
     _Of("held", "Whether no night calls it.", lambda it, site: int(it.held) if not it.odd else None),
 )
 _OF_SITE: tuple[tuple[str, str, Callable[[Figures], int | None]], ...] = (

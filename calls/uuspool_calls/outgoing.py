@@ -1,6 +1,6 @@
 """What is queued here for a neighbour, in pieces if it is larger than a job."""
 import os
-from collections.abc import Iterator
+from collections.abc import Callable, Iterator
 
 from . import carriers
 from .bundle import MOST_OF_A_JOB
@@ -22,9 +22,10 @@ class Parcelled(NamedTuple):
     words: tuple[str, ...]  # its kind, and the words of that
 
 
-def queue(site: Site, what: Parcelled, content: int) -> None:
+def queue(site: Site, what: Parcelled, content: int, begins: Callable[[], None] = lambda: None) -> None:
     """Queues the bytes of an open file, as a job or in pieces. If a stop comes between two pieces, this is done again, and
-    queues those that don't wait. SpoolError if the spool doesn't take it. No piece is queued if there isn't room for all."""
+    queues those that don't wait. `begins` comes before the first of them. SpoolError if the spool doesn't take it. No piece is queued
+    if there isn't room for all."""
     length = int(carriers.values_of(site.session, what.system).get("piece", 0))
     is_plain = what.words[0] == "exec" or len(what.words) == 3
     line = [f"--as={what.user}", "exec", f"-g{what.grade}", "--", what.system]
@@ -43,6 +44,7 @@ def queue(site: Site, what: Parcelled, content: int) -> None:
             continue
         if not is_expected:
             _expect_room(site, what, piece)
+            begins()
             is_expected = True
         site.spool.ask_once(*line, *piece.line(), given=data)
 

@@ -13,7 +13,6 @@ file named by its place. So no piece takes longer than another one, and no more 
 claims."""
 import contextlib
 import os
-import time
 from collections.abc import Callable, Iterator, Sequence
 
 from . import files
@@ -29,12 +28,13 @@ SIZE = 1_000_000  # bytes of a piece, unless the neighbour's entry names others
 DAYS = 30  # after the newest piece
 FILE = ".file"  # ends the name of the folder of a file that is refused
 UNTOLD = ".untold"  # behind it, while nobody was told
-_DAY = 86400
 _FREE = 20  # a part of the disk stays free of pieces: one of so many
 _MOST_DIGITS = 18  # of a size or a place
 _MOST_OF_A_MARK = 64
 _ABOUT, _WHOLE = "about", "whole"
 _CAME = "came"  # becomes _ABOUT once the whole is delivered, if the disk is full then
+
+IsOld = Callable[[str, int], bool]  # whether what a path names lies unchanged for so many days
 
 
 class Piece(NamedTuple):
@@ -152,6 +152,10 @@ class About(NamedTuple):
             return About(Piece(str(sum_of), int(size), int(length), str(mark), int(at), tuple(map(str, words))), **kept)
         except (KeyError, TypeError, ValueError, IndexError):
             return None
+
+    def came_with(self, job: str) -> bool:
+        """Whether it was delivered with the job of this name. (What the site's clock shows of the job may have changed.)"""
+        return self.came == job or self.came.rpartition("!")[0] == job.rpartition("!")[0] != ""
 
     def write(self, folder: str, name: str = _ABOUT) -> None:
         """Keeps it."""
@@ -328,7 +332,7 @@ class Pieces:
                 return File(path, about, is_refused=True)
         folder = f"{self._folder}/{name}"
         about = About.read(folder)
-        if about and not piece.mark and about.came not in ("", job):
+        if about and not piece.mark and about.came and not about.came_with(job):
             files.remove_folder(folder)  # (it was delivered before a stop, and this is a new one)
             about = None
         if about is None and not piece.mark:
@@ -361,19 +365,21 @@ def cannot_be_kept(piece: Piece, folder: str, error: OSError) -> Delay:
     return Delay(f"{piece.place} of {piece.words[-1]} cannot be kept below {folder}: {error.strerror}")
 
 
-def unfinished(folder: str) -> Iterator[File]:
+def kept_in(folder: str) -> list[str]:
+    """What is kept of the files of all senders."""
+    return [f"{folder}/{sender}/{name}" for sender in files.names_in(folder) for name in files.names_in(f"{folder}/{sender}")]
+
+
+def unfinished(folder: str, is_old: IsOld) -> Iterator[File]:
     """The files of all senders of which no other piece came for a long time. What is of no use is removed."""
-    before = time.time() - DAYS * _DAY
-    for sender in files.names_in(folder):
-        for name in files.names_in(f"{folder}/{sender}"):
-            path = f"{folder}/{sender}/{name}"
-            with contextlib.suppress(OSError):
-                if os.stat(path).st_mtime >= before:
-                    continue
-                about = About.read(path)
-                if about and not about.came:
-                    yield File(path, about)
-                elif os.path.isdir(path):
-                    files.remove_folder(path)
-                elif not os.path.exists(path.removesuffix(".lock")):
-                    os.remove(path)
+    for path in kept_in(folder):
+        with contextlib.suppress(OSError):
+            if not is_old(path, DAYS):
+                continue
+            about = About.read(path)
+            if about and not about.came:
+                yield File(path, about)
+            elif os.path.isdir(path):
+                files.remove_folder(path)
+            elif not os.path.exists(path.removesuffix(".lock")):
+                os.remove(path)

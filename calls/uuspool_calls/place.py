@@ -3,12 +3,14 @@
 What is made for that is in `NAME.restoring` beside it. Before the step this folder becomes `NAME.before.MOMENT`, which only
 who runs the command can enter. After the step the folder that was the spool's is in it, so no line that began in that
 folder finds its spool there."""
+import contextlib
 import errno
 import fcntl
 import os
 import shutil
 import stat
 import time
+from collections.abc import Callable, Collection, Sequence
 
 from . import clock, files, kernel
 from .copies import Target
@@ -19,6 +21,7 @@ INNER = "spool"  # the folder that is made, and after the step the one that was 
 ASIDE = ".aside"  # ends the name of the spool in the folder that was there
 _FOLDER = os.O_RDONLY | os.O_DIRECTORY | os.O_NOFOLLOW | os.O_CLOEXEC
 _OTHERS_WRITE = 0o022
+_LOOKS, _PAUSE = 50, 0.1  # how often it is looked whether somebody works there, and the seconds between
 _NEVER = (errno.EBUSY, errno.EXDEV, errno.EINVAL, errno.ENOSYS, errno.EOPNOTSUPP)  # what rename says of a mount point, or if it can't
 BY_HAND = "put the copy back by hand, as backup.md says"
 
@@ -26,8 +29,8 @@ BY_HAND = "put the copy back by hand, as backup.md says"
 class Place:
     """The folder of a spool, which belongs to this user, and the folder that it is in."""
 
-    def __init__(self, folder: str, owner: str) -> None:
-        self.path, self._owner = os.path.realpath(folder), owner
+    def __init__(self, folder: str, owner: str, spool: str) -> None:
+        self.path, self._owner, self._lock = os.path.realpath(folder), owner, f"{os.path.realpath(folder)}/{spool}-lock"
         self.parent, self.name = os.path.split(self.path)
         self._room: Target | None = None
         self._parent = os.open(self.parent, _FOLDER)
@@ -61,8 +64,23 @@ class Place:
 
     def workers(self) -> list[str]:
         """The processes that work in the folder, or have a file in it open, as far as this user may know."""
-        found = ((int(it), _uses(f"/proc/{it}", self.path)) for it in os.listdir("/proc") if it.isdigit() and int(it) != os.getpid())
-        return [f"process {number} ({_name_of(number)}) has {path}" for number, path in sorted(found) if path]
+        users = {0, self.seen.st_uid}
+        found = ((int(it), _used(f"/proc/{it}", self.path, users)) for it in os.listdir("/proc") if it.isdigit() and int(it) != os.getpid())
+        return [f"process {number} ({_name_of(number)}) has {paths[0]}" for number, paths in sorted(found) if paths and not self._waits(paths)]
+
+    def _waits(self, paths: Sequence[str]) -> bool:
+        """Whether a process that has these is a line that waits for the turn. Then it opens the spool that is there, or fails if it is in
+        a folder of root's by then."""
+        others = set(paths) - {self._lock}
+        return not others or (others == {self.path} and self._lock in paths and os.geteuid() == 0)
+
+    def wait_for_nobody(self, pause: Callable[[float], None]) -> None:
+        """Failure if processes work in the folder for some time. (Lines of members begin again and again.)"""
+        for _ in range(_LOOKS):
+            if not self.workers():
+                return
+            pause(_PAUSE)
+        self.expect_nobody()
 
     def expect_nobody(self) -> None:
         """Failure if a process works in the folder. It would go on in the folder that was there."""
@@ -79,6 +97,7 @@ class Place:
             with files.opened(name, _FOLDER, folder=self._parent) as handle:
                 _lock(handle, f"{self.parent}/{name}")
                 self._remove(name)
+        self._remove_second_names()
         try:
             self._room = Target(name, self._parent)
         except PermissionError:
@@ -114,6 +133,15 @@ class Place:
             os.fsync(handle)
         return f"{self.parent}/{name}/{INNER}"
 
+    def _remove_second_names(self) -> None:
+        """A killed run may have left files of the place with a second name in the folder that was there."""
+        for before in (it for it in os.listdir(self._parent) if it.startswith(f"{self.name}.before.")):
+            with contextlib.suppress(OSError), files.opened(f"{before}/{INNER}", _FOLDER, folder=self._parent) as folder:
+                for name in os.listdir(folder):
+                    ours, its = files.look(name, self.handle, follows=False), files.look(name, folder, follows=False)
+                    if ours and its and stat.S_ISREG(its.st_mode) and os.path.samestat(ours, its):
+                        os.unlink(name, dir_fd=folder)
+
     def _free_name(self) -> str:
         """Under which the folder that was there is kept."""
         head = f"{self.name}.before.{time.strftime('%Y%m%dT%H%M%SZ', time.gmtime(clock.now()))}"
@@ -125,7 +153,10 @@ class Place:
         return seen is not None and stat.S_ISDIR(seen.st_mode)
 
     def _remove(self, name: str) -> None:
-        shutil.rmtree(name, ignore_errors=True, dir_fd=self._parent)
+        try:
+            shutil.rmtree(name, ignore_errors=True, dir_fd=self._parent)
+        except RecursionError:
+            raise Failure(LATER, f"{self.parent}/{name} has too many folders in each other: remove it by rm -rf") from None
 
 
 def _mount_of(handle: int) -> bytes:
@@ -141,16 +172,18 @@ def _lock(handle: int, path: str) -> None:
         raise Failure(LATER, f"another uuspool-restore works in {path}") from None
 
 
-def _uses(process: str, folder: str) -> str:
-    """Which file of a folder a process has open, or the folder if it works there, or nothing."""
+def _used(process: str, folder: str, users: Collection[int]) -> list[str]:
+    """Which files of a folder a process has open, and the folder if it works there. Anybody may mount another folder at its path
+    for own processes, so the file has to be the same, or a removed one that a process of these users has open."""
+    used = []
     for link in f"{process}/cwd", *(f"{process}/fd/{it}" for it in files.names_in(f"{process}/fd")):
-        try:
+        with contextlib.suppress(OSError):
             path = os.readlink(link)
-        except OSError:
-            continue
-        if path == folder or path.startswith(f"{folder}/"):
-            return path
-    return ""
+            if path == folder or path.startswith(f"{folder}/"):
+                ours = files.look(path, follows=False)
+                if os.path.samestat(os.stat(link), ours) if ours else os.stat(process).st_uid in users:
+                    used.append(path)
+    return used
 
 
 def _name_of(process: int) -> str:

@@ -1,8 +1,9 @@
 """What is kept about jobs that can't be delivered yet."""
+from collections.abc import Mapping
 
 from . import files
 from .jobs import Job
-from .values import NamedTuple
+from .values import Any, NamedTuple
 
 _FIRST_WAIT, _MOST_WAIT = 600, 14400
 _MOST_DOUBLINGS = 10
@@ -12,9 +13,11 @@ _LEAST_TRIES = 20  # before that: 5 days are some 34, and a clock that jumps is 
 
 class Tries(NamedTuple):
     """How often a job failed, when it is tried again, when it was first tried, and why it failed. If it was delivered, and
-    the spool couldn't note that, what was. A record is about one job, and has the job's line."""
+    the spool couldn't note that, what was. A record is about one job, and has the line that the job had first, and the word of
+    its spool."""
 
     job: str
+    word: str
     failed: int
     next: int
     first: int
@@ -22,15 +25,20 @@ class Tries(NamedTuple):
     came: str = ""
 
     @staticmethod
-    def read(folder: str, job: Job, now: int) -> "Tries":
-        """The record of a job, or that of a job that wasn't tried."""
+    def read(folder: str, word: str, job: Job, now: int) -> "Tries":
+        """The record of a job in the spool of this word, or that of a job that wasn't tried."""
         record = files.read_record(f"{folder}/{job.number}")
         try:
-            if record["job"] == job.line:
-                return Tries(job.line, int(record["failed"]), int(record["next"]), int(record["first"]), str(record["why"]), str(record.get("came", "")))
+            if _is_about(record, word, job):
+                return Tries(record["job"], word, int(record["failed"]), int(record["next"]), int(record["first"]), str(record["why"]), str(record.get("came", "")))
         except (KeyError, TypeError, ValueError):
             pass
-        return Tries(job.line, 0, 0, now)
+        return Tries(job.line, word, 0, 0, now)
+
+    def of(self, job: Job) -> Job:
+        """The job with the moment that it had when it was first tried, by which a command may know it."""
+        then = Job.read(self.job)
+        return job._replace(day=then.day, hour=then.hour)
 
     def is_later(self, now: int) -> bool:
         """Whether it isn't tried yet. Not if the clock was set back."""
@@ -48,6 +56,18 @@ class Tries(NamedTuple):
     def write(self, folder: str, number: int) -> None:
         """Keeps the record."""
         files.write_record(f"{folder}/{number}", self._asdict())
+
+
+def _is_about(record: Mapping[str, Any], word: str, job: Job) -> bool:
+    """Whether a record is about a job, whose grade may have changed (`regrade`), and its moment, too (`rejuvenate`, or another
+    rule of the site's clock). A record of before, which has no word of a spool, is about the job of this moment."""
+    then = Job.read(str(record["job"]))
+    is_here = word != "" and record.get("word") == word
+    return _lasting(then) == _lasting(job) and (is_here or (then.day, then.hour) == (job.day, job.hour))
+
+
+def _lasting(job: Job) -> Job:
+    return job._replace(grade="", day="", hour="", line="")
 
 
 def forget(folder: str, number: int) -> None:

@@ -9,26 +9,24 @@ import collections
 import contextlib
 import itertools
 import os
-import time
 from collections.abc import Iterator, Sequence
 
 from . import files, pieces
 from .errors import LATER, SpoolError
 from .jobs import Job, Parcel
 from .letters import PAUSE, Letter, Mailroom, NotSent
-from .pieces import FILE, UNTOLD
+from .pieces import FILE, UNTOLD, IsOld
 from .site import Site
 from .texts import printable
 from .values import NamedTuple
 
 _MOST_LETTERS = 20  # to one local user, or to one neighbour, at a time
-_LOOKED = ".looked"  # when the age and the size of what is kept were looked at
+_LOOKED = ".looked"  # when it was looked at how old things are
+_SEEN = ".seen"  # what was seen then
 _FAILED = ".failed"  # when a letter couldn't be sent
 _BETWEEN_LOOKS = 3600  # seconds
-_JUMP = 30 * 86400  # seconds between two looks, if not a clock jumped
 _DAYS = 90
 _MEGABYTES = 64
-_DAY = 86400
 _MOST_OF_A_LINE = 1 << 16  # bytes
 
 
@@ -212,23 +210,23 @@ def _tell(site: Site, group: Sequence[Kept]) -> bool:
     return True
 
 
-def is_time_to_look(site: Site) -> bool:
-    """Whether it is looked now how old things are, an hour after the last time. If that seems to be much longer ago, a
-    clock that jumped would make all of them old, so the next time counts."""
+def look(site: Site) -> IsOld | None:
+    """What says which things are old, if it is an hour since that was looked at."""
     looked = f"{site.folder}/refused/{_LOOKED}"
-    seen = files.look(looked)
-    passed = time.time() - seen.st_mtime if seen else -1
-    if 0 <= passed < _BETWEEN_LOOKS:
-        return False
+    if files.is_fresh(looked, _BETWEEN_LOOKS):
+        return None
     files.touch_if_possible(looked)
-    return 0 <= passed < _JUMP
+    kept = [path for path, _, _ in newest_first(f"{site.folder}/refused")]
+    from .ages import Ages  # (which most rounds don't need)
+
+    return Ages.look(f"{site.folder}/refused/{_SEEN}", [*kept, *pieces.kept_in(f"{site.folder}/pieces")]).is_old
 
 
-def forget_old(site: Site) -> None:
-    """Removes what was refused long ago."""
-    oldest = time.time() - site.session.setting("UUSPOOL_REFUSED_DAYS", _DAYS) * _DAY
-    for path, written, _ in newest_first(f"{site.folder}/refused"):
-        if written < oldest:
+def forget_old(site: Site, is_old: IsOld) -> None:
+    """Removes what was refused long ago, and whose user was told. (The age begins when the file gets its name.)"""
+    days = site.session.setting("UUSPOOL_REFUSED_DAYS", _DAYS)
+    for path, _, _ in newest_first(f"{site.folder}/refused"):
+        if not path.endswith(UNTOLD) and is_old(path, days):
             _remove(path)
 
 

@@ -2,7 +2,7 @@
 from collections.abc import Sequence
 
 from . import moves, records
-from .deliver import Deliverer
+from .deliver import LOCK, Deliverer
 from .errors import LATER, USAGE, Failure
 from .jobs import Parcel
 from .refusals import Refuser, tell
@@ -20,17 +20,25 @@ def run(session: Session, words: Sequence[str]) -> int:
     site = enter(session)
     session.processes.catch_stops()
     moves.finish_all(site)
-    parcel = site.spool.show(int(words[0]))
-    if parcel is None:
-        raise Failure(1, f"there is no job {words[0]}")
-    if not _refuse(site, parcel, " ".join(words[1:])):
+    number = int(words[0])
+    if not _refuse(site, _parcel(site, number), " ".join(words[1:])):
         return LATER
-    records.forget(f"{site.folder}/deliver", parcel.job.number)
+    records.forget(f"{site.folder}/deliver", number)
     return tell(site)
 
 
+def _parcel(site: Site, number: int) -> Parcel:
+    if parcel := site.spool.show(number):
+        return parcel
+    raise Failure(1, f"there is no job {number}")
+
+
 def _refuse(site: Site, parcel: Parcel, why: str) -> bool:
-    """A piece that came here is refused with what came before."""
-    if parcel.job.system == site.own:
-        return Deliverer(site).give_up(parcel, why) == 0
-    return Refuser(site).refuse(parcel, why)
+    """A piece that came here is refused with what came before. What is being delivered isn't refused."""
+    number = parcel.job.number
+    if parcel.job.system != site.own:
+        return Refuser(site).refuse(parcel, why)
+    with site.lock(f"deliver/{number}{LOCK}") as lock:
+        if not lock.take():
+            raise Failure(LATER, f"job {number} is being delivered: repeat this if it still waits then")
+        return Deliverer(site).give_up(_parcel(site, number), why) == 0

@@ -14,7 +14,7 @@ from collections.abc import Callable, Collection, Mapping, Sequence
 
 from . import files, logged, options, restored, turn
 from .copies import Copier, Target
-from .errors import LATER, NOT_SET_UP, USAGE, Failure
+from .errors import LATER, NOT_SET_UP, USAGE, Failure, Stopped
 from .jobs import Job, Parcel
 from .journal import Journal
 from .pieces import Piece, name_of
@@ -30,14 +30,15 @@ from .values import NamedTuple
 
 _USAGE = "usage: uuspool-restore [-n NUMBER] COPY"
 _LAST = 4294967294  # number of a job
+_NO_LIMIT = 1 << 40  # bytes of a spool that is made, which may be as long as the site's limit lets it be
 _DISTANCE = 1_000_000  # from the greatest number that is known, if the spool that is there can't be read
+_FARTHEST = 1_000_000_000
 _LITTLE = 1_000  # from that, otherwise, because a crash may have taken the ends of the spool and of the log
 _SETTINGS = "restoring.toml"  # with which the program works on what is made
 _PRESENT, _ITS_COPY = "present", "copy"  # folders in which the program reads copies of both spools
 _MOST = 1 << 28  # bytes that the program may print
 _AT_A_TIME = 64  # jobs whose bytes are in memory
 _ENDS = ("", "-wal", "-word", "-lock", "-reserve", "-journal", "-new", "-new-wal", ASIDE)  # of the names of the spool's files
-_NEW = os.O_WRONLY | os.O_CREAT | os.O_EXCL | os.O_NOFOLLOW | os.O_CLOEXEC
 
 
 class Gone(NamedTuple):
@@ -65,7 +66,7 @@ def run(session: Session, words: Sequence[str]) -> int:
     found = find_from_anywhere(session)
     owner = _owner_of(found)
     session.processes.catch_stops()
-    with Place(found.folder, owner) as place, Source(path, found, place.seen.st_uid) as source:
+    with Place(found.folder, owner, os.path.basename(found.spool)) as place, Source(path, found, place.seen.st_uid) as source:
         restoration = Restoration(session, found, owner, place, source)
         restoration.make(int(least or 0))
     for fault in restoration.faults:
@@ -93,63 +94,100 @@ class Restoration:
         self._session, self._settings, self._owner, self._place, self._source = session, found, owner, place, source
         self._pause = session.processes.pause
         self.faults: list[str] = []  # what couldn't be read or brought over, and why
+        self._other = Known(0, [])  # of the spool that is there, if it isn't the copy's
         self._is_same = False  # whether the spool that is there has the word of the copy's
         self._why = ""  # the program failed
 
     def make(self, least: int) -> None:
         """Puts it back, with a next number of so much at least, and prints what was done."""
-        self._place.expect_nobody()
+        self._place.wait_for_nobody(self._pause)
         room = self._place.begin()
         made = self._begun(room, INNER)
         self._source.put_spool(made)
         copy = self._known(room, _ITS_COPY, self._source.put_spool)
         if not copy.next:
-            raise Failure(LATER, f"the spool in {self._source.path} can't be read: {self._why}: take an earlier copy")
+            raise Failure(LATER, f"the spool in {self._source.path} can't be read: {self._why}: make room on the disk, or take an earlier copy")
         with turn.Turn(self._settings.spool, self._session.setting("UUSPOOL_PATIENCE", 60), self._owner) as its_turn, contextlib.ExitStack() as stack:
             its_turn.wait_for_it(self._pause)
             present = self._present(room, its_turn, stack)
-            said = self._without_lost_pieces(logged.read(self._settings.log, self._owner, self._source.moment()), copy.jobs)
+            said = self._said(copy.jobs)
             self.faults += (f"{it}, so jobs of which it says that they are done may wait again" for it in said.faults)
             number = _number(least, copy.next, present.next, said.greatest)
-            gone = [Gone(job, said.gone[job.number], said.lost(job.number, copy.next)) for job in copy.jobs if job.number in said.gone]
+            gone = [Gone(job, said.gone[job.number], said.lost.get(job.number)) for job in copy.jobs if job.number in said.gone]
             anew = self._change(made, number, gone)
-            self._fill(made, {job.number for job in copy.jobs} - {it.job.number for it in gone if not it.lost} - anew.keys())
-            self._put(made, restored.NAME, restored.text_of([*self._given_up(), (copy.next, number)]))
+            self._fill(made, {job.number for job in copy.jobs} | self._read(self._handed()).gone.keys())
+            made.put_text(restored.NAME, restored.text_of([*self._given_up(), (copy.next, number)]), self._place.seen)
             made.sync()
             self._session.processes.check()
-            with self._session.processes.finishing():
+            # (A stop that comes once it is put back ends nothing.)
+            with contextlib.suppress(Stopped), self._session.processes.finishing():
                 self._place.expect_nobody()
-                path = self._exchange(made)
-        self._tell(gone, anew, number, path)
+                path = self._put_in_place(made, gone, anew, number)
         known = {job.number for job in copy.jobs} | said.gone.keys() | {it.lost.number for it in gone if it.lost}
-        for job in present.jobs:
-            if job.number not in known:
+        try:
+            if not said.has_mark:
+                self._session.print("the log has no line of this copy, so jobs that were done since it was made wait again")
+            self._tell(gone, anew, number, path)
+            for job in *(it for it in present.jobs if it.number not in known), *self._other.jobs:
                 self._session.print(f"not in the copy: job {_shown(job)}")
+        except OSError as error:
+            self.faults.append(f"standard output can't be written, and lacks what was done: {error.strerror}")
 
-    def _without_lost_pieces(self, said: logged.Said, jobs: Sequence[Job]) -> logged.Said:
-        """If the pieces of files that came here are lost, a job that brought one isn't done, unless the file was delivered."""
-        if self._is_same and "pieces" in os.listdir(self._place.handle):
-            return said
+    def _put_in_place(self, made: Target, gone: Sequence[Gone], anew: Mapping[int, int], number: int) -> str:
+        """Exchanges the folders. Where the one that was there is then. The log says what was queued anew before anybody can work
+        with that, and at once that the copy was put back, whatever stops this."""
+        if self._is_same:
+            self._note_anew(gone, anew)
+        path = self._exchange(made)
+        which = f"{self._source.mark or '-'} {self._source.word} from {self._source.path}"
+        self._note("", user_name(self._place.seen.st_uid), "", logged.RESTORED, f"{which}: the next job gets {number} or a later number", lasts=True)
+        if not self._is_same:
+            self._note_anew(gone, anew)
+        for job, line, lost in gone:
+            if not lost:
+                self._note(job.system, job.user, job.number, "done-before", f"{line.how}: {job.what}")
+        return path
+
+    def _note_anew(self, gone: Sequence[Gone], anew: Mapping[int, int]) -> None:
+        left = len(anew)
+        for job, _, lost in gone:
+            if lost and job.number in anew:
+                left -= 1
+                self._note(_system_of(lost), job.user, anew[job.number], "done", " ".join(lost.line[1:]))
+                self._note(_system_of(lost), job.user, anew[job.number], "moved", f"from {job.system}, where it was job {job.number}", lasts=not left)
+
+    def _note(self, system: str, user: str, job: int | str, how: str, words: str, lasts: bool = False) -> None:
+        with acting_as(self._owner):
+            Journal(self._settings.log, self._settings.zone, self._session.say).note(system, user, job, how, words, lasts)
+
+    def _said(self, jobs: Sequence[Job]) -> logged.Said:
+        """What the log says of the jobs of the copy. A job that brought a piece of a file here isn't done, unless the file was
+        delivered: the piece may be lost. (One that is there may come again.)"""
+        said = self._read({job.number for job in jobs})
         came = {name_of(job) for job in jobs if job.number in said.delivered}
-        lost = {job.number for job in jobs if job.system == self._settings.name and Piece.of(job) and name_of(job) not in came}
-        gone = {number: line for number, line in said.gone.items() if number not in lost or line.how != "done"}
+        pieces = {job.number for job in jobs if job.system == self._settings.name and Piece.of(job) and name_of(job) not in came}
+        gone = {number: line for number, line in said.gone.items() if number not in pieces or line.how != "done"}
         return said._replace(gone=gone)
+
+    def _read(self, jobs: Collection[int]) -> logged.Said:
+        """What the log says of jobs since the copy was made."""
+        return logged.read(self._settings.log, self._owner, self._source.word, self._source.mark, jobs)
+
+    def _handed(self) -> set[int]:
+        """The jobs of which notes say that Taylor UUCP has them."""
+        folder = f"{self._place.path}/taylor"
+        with acting_as(self._owner):
+            names = [name.removesuffix(".json") for system in files.names_in(folder) for name in files.names_in(f"{folder}/{system}")]
+        return {int(it) for it in names if is_number(it)}
 
     def _begun(self, room: Target, name: str) -> Target:
         """A new folder for a spool, with settings for it."""
         import json  # (takes long to load)
 
         target = room.folder(name, self._place.seen)
-        limit = f"limit = {self._settings.limit}\n" if self._settings.limit else ""
-        self._put(target, _SETTINGS, f"name = {json.dumps(self._settings.name)}\nspool = {json.dumps(self._source.name, ensure_ascii=False)}\n{limit}")
+        text = f"name = {json.dumps(self._settings.name)}\nspool = {json.dumps(self._source.name, ensure_ascii=False)}\nlimit = {_NO_LIMIT}\n"
+        target.put_text(_SETTINGS, text, self._place.seen)
         return target
-
-    def _put(self, target: Target, name: str, text: str) -> None:
-        """A new file of the spool's user."""
-        with files.closing(os.open(name, _NEW, 0o600, dir_fd=target.handle)) as handle:
-            files.write_all(handle, text.encode())
-            if os.geteuid() == 0:
-                os.fchown(handle, self._place.seen.st_uid, self._place.seen.st_gid)
 
     # ---- what is known
 
@@ -168,14 +206,20 @@ class Restoration:
                 target.put(f"{self._source.name}-wal", handle)
 
         try:
-            return self._known(room, _PRESENT, put) if self._is_same else Known(0, [])
+            known = self._known(room, _PRESENT, put)
         except OSError:
             return Known(0, [])
+        if self._is_same:
+            return known
+        self._other = known
+        return Known(0, [])
 
     def _given_up(self) -> list[restored.GivenUp]:
-        """The numbers that were given up before: in the past of the copy, and in that of the spool that is there, if it is the copy's."""
+        """The numbers that were given up before: in the past of the copy, and in that of the spool that is there, if it is the copy's.
+        Another spool gave the first ones, so neighbours may have heard that they don't come again."""
         texts = [self._source.text(restored.NAME), self._present_text(restored.NAME) if self._is_same else ""]
-        return [it for text in texts for it in restored.given_up_in(text)]
+        others = [(1, self._other.next)] if self._other.next > 1 else []
+        return [*others, *(it for text in texts for it in restored.given_up_in(text))]
 
     def _present_text(self, name: str) -> str:
         """What a file in the folder that is there says, or nothing if it can't be read."""
@@ -229,8 +273,12 @@ class Restoration:
     def _queue_anew(self, moved: Sequence[Gone]) -> dict[int, int]:
         """Queues jobs anew by the lines that did that before. One that isn't queued waits as it is in the copy."""
         shown = self._batch(INNER, [(f"show {it.job.number}".encode(), b"") for it in moved])
+        if [it.status for it in shown] != [0] * len(moved):
+            raise Failure(LATER, f"jobs that had been queued anew can't be read from the copy: {self._why}")
         lines = [" ".join(it.lost.line).encode() if it.lost else b"" for it in moved]
         answers = self._batch(INNER, [(line, Parcel.read(its.output).data) for line, its in zip(lines, shown, strict=True)])
+        if len(answers) != len(moved):
+            raise Failure(LATER, f"jobs can't be queued anew in the copy: {self._why}")
         numbers: dict[int, int] = {}
         for it, answer in zip(moved, answers, strict=True):
             if answer.status:
@@ -257,13 +305,13 @@ class Restoration:
         environment = {key: value for key, value in program.environment.items() if key != "UUSPOOL_DIR"}
         return self._session.processes.run(program._replace(folder=f"{self._place.room}/{name}", environment=environment), given)
 
-    def _fill(self, made: Target, left: Collection[int]) -> None:
+    def _fill(self, made: Target, known: Collection[int]) -> None:
         """Puts beside the made spool what is beside the one that is there, and what only the copy has. (If that is another spool,
-        what is noted of its jobs stays there.)"""
+        what is noted of its jobs stays there.) These jobs are in the copy, or gone since."""
         names = {it for it in os.listdir(self._place.handle) if self._is_carried(it)}
         with Copier([self._place.seen.st_uid], self._owner) as copier:
             for name in sorted(names):
-                self._carry(name, made, copier, left)
+                self._carry(name, made, copier, known)
             self._finish(copier)
         with Copier([self._place.seen.st_uid]) as copier:
             for name in BESIDE:
@@ -279,12 +327,12 @@ class Restoration:
         is_spools = name.removeprefix(self._source.name) in _ENDS or name == restored.NAME
         return is_kept(name) and not is_spools and (self._is_same or name not in BESIDE)
 
-    def _carry(self, name: str, made: Target, copier: Copier, left: Collection[int]) -> None:
+    def _carry(self, name: str, made: Target, copier: Copier, known: Collection[int]) -> None:
         path, seen = f"{self._place.path}/{name}", files.look(name, self._place.handle, follows=False)
         if seen is None:
             return
         if stat.S_ISDIR(seen.st_mode):
-            copier.take(path, made.folder(name), _wanted(name, left))
+            copier.take(path, made.folder(name), _wanted(name, known))
         elif stat.S_ISLNK(seen.st_mode):
             os.symlink(os.readlink(name, dir_fd=self._place.handle), name, dir_fd=made.handle)
 
@@ -296,7 +344,7 @@ class Restoration:
 
     def _exchange(self, made: Target) -> str:
         """Where the folder that was there is then. These files stay the same. So a line that waits with the lock, and has the path of
-        the new spool, keeps its turn, and no line of the log is lost. (No link is followed, and a name in the folder of the
+        the new spool, keeps its turn or fails, and no line of the log is lost. (No link is followed, and a name in the folder of the
         spool's user becomes another one there.)"""
         moved = self._files()
         for name in moved:
@@ -309,16 +357,9 @@ class Restoration:
     # ---- what is told
 
     def _tell(self, gone: Sequence[Gone], anew: Mapping[int, int], number: int, path: str) -> None:
-        """Says it on standard output and in the log."""
-        with acting_as(self._owner):
-            log = Journal(self._settings.log, self._settings.zone, self._session.say)
-            log.note("", user_name(os.geteuid()), "", "restored", f"from {self._source.path}: the next job gets {number} or a later number")
-            for job, line, lost in gone:
-                if lost and job.number in anew:
-                    log.note(_system_of(lost), job.user, anew[job.number], "done", " ".join(lost.line[1:]))
-                    log.note(_system_of(lost), job.user, anew[job.number], "moved", f"from {job.system}, where it was job {job.number}")
-                elif not lost:
-                    log.note(job.system, job.user, job.number, "done-before", f"{line.how}: {job.what}")
+        """Says it on standard output."""
+        if not self._is_same:
+            self._session.print("the spool that was there has another word than the copy, or none")
         for job, line, lost in gone:
             if not lost:
                 self._session.print(f"done before ({line.how}, {line.moment}): job {_shown(job)}")
@@ -338,13 +379,13 @@ def _shown(job: Job) -> str:
     return f"{job.number} for {job.system} of {job.user}: {job.what}"
 
 
-def _wanted(folder: str, left: Collection[int]) -> Callable[[str], bool]:
-    """Which files in a folder are brought over. Taylor UUCP goes on with a job that the copy doesn't have, and a note of it
-    would take it back."""
+def _wanted(folder: str, known: Collection[int]) -> Callable[[str], bool]:
+    """Which files in a folder are brought over. Taylor UUCP goes on with a job that is lost here, and a note of it would take it
+    back. One that was killed or moved has to be taken back, so its note stays."""
 
     def is_wanted(name: str) -> bool:
         number = name.removesuffix(".json")
-        return is_kept(name) and (folder != "taylor" or not number.isdecimal() or int(number) in left)
+        return is_kept(name) and (folder != "taylor" or not number.isdecimal() or int(number) in known)
 
     return is_wanted
 
@@ -355,6 +396,8 @@ def _number(least: int, copys: int, presents: int, greatest: int) -> int:
     known = max(copys, presents, greatest + 1)
     if 0 < least < known:
         raise Failure(USAGE, f"-n {least} is too small, because numbers up to {known - 1} may have been given: say {known} or more")
+    if least > known + _FARTHEST:
+        raise Failure(USAGE, f"-n {least} would use up the numbers, of which {known - 1} is the greatest known: say {known + _FARTHEST} or less")
     number = least or known + (_LITTLE if presents else _DISTANCE)
     if number > _LAST:
         raise Failure(LATER, f"no number above {known} is certainly new: say one by -n")

@@ -254,7 +254,9 @@ class Setup:
         self._make_account(home)
         path = f"{home}/.ssh/authorized_keys"
         others = (files.read_bytes(path) or b"").decode(errors="surrogateescape").splitlines()
-        lines = [it for it in others if it.split()[-1:] != [self._name]]
+        lines = [it for it in others if it.split()[-1:] != [self._name] and key not in it.split()]
+        for name in {it.split()[-1] for it in others if key in it.split()} - {self._name}:
+            self._session.print(f"{name} may not call with this key any more, since sshd takes the first line of a key.")
         self._put(path, "".join(f"{it}\n" for it in (*lines, line)))
         self._session.print(f"{self._name} may call uuspool@{os.uname().nodename} with its key now.")
 

@@ -3,19 +3,20 @@ import contextlib
 import os
 import re
 import stat
+from collections.abc import Sequence
 
-from . import clock, files, turn
+from . import files, turn
 from .copies import Copier, Target
 from .errors import LATER, USAGE, Failure
 from .settings import Settings
 
+MARK = "copied"  # a file of the copy, which has the word by which the log says where it was made
 BESIDE = ("calls", "deliver", "refused", "moves", "pieces")  # the folders of a copy that are kept beside the spool
 _LOCKS = re.compile(r".*(\.lock|\.works|\.port|\.waits|\.answer\.[0-9]+)\Z|\..*\.new\Z", re.S)
 _FOLDER = os.O_RDONLY | os.O_DIRECTORY | os.O_CLOEXEC
 _OTHERS_WRITE = 0o022
 _MOST_OF_SETTINGS = 1 << 20
 MOST_OF_A_TEXT = 1 << 17  # bytes of a small file beside the spool
-_STAMP = re.compile(r"\.([0-9]{4})([0-9]{2})([0-9]{2})T([0-9]{2})([0-9]{2})([0-9]{2})Z(?:\.[0-9]+)?\Z")
 
 
 def is_kept(name: str) -> bool:
@@ -38,6 +39,8 @@ class Source:
         try:
             self._expect_own_site()
             self.word = self.text(f"{self.name}-word").strip()
+            self.mark, *sizes = self.text(MARK).split() or [""]
+            self._expect_sizes(sizes)
             if not self.word:
                 raise Failure(LATER, f"{self.path}/spool has no file {self.name}-word, so neighbours would take its jobs for others: see man uuspool-trouble")
         except BaseException:
@@ -65,16 +68,13 @@ class Source:
             if name not in (None, self._settings.name):
                 raise Failure(LATER, f"{self.path} is a copy of another site, {name}: name a copy of {self._settings.name}")
 
-    def moment(self) -> str:
-        """When it was made, as the site's clock shows that: by its name, or when its spool was written last."""
-        match = _STAMP.search(self.path)
-        if match:
-            year, month, day, hour, minute, second = match.groups()
-            seconds = clock.seconds("UTC0", f"{year}-{month}-{day} {hour}:{minute}:{second}")
-        else:
-            seen = [files.look(f"{self.name}{end}", self._spool, follows=False) for end in ("", "-wal")]
-            seconds = int(max(it.st_mtime for it in seen if it))
-        return clock.shown(self._settings.zone, seconds)
+    def _expect_sizes(self, sizes: Sequence[str]) -> None:
+        """The files of the spool are as long as they were when they were copied. (A log that was cut off is an older spool.)"""
+        for end, size in zip(("", "-wal"), sizes):
+            seen = files.look(f"{self.name}{end}", self._spool, follows=False)
+            if seen is None or str(seen.st_size) != size:
+                its = f"has {seen.st_size} bytes" if seen else "is missing"
+                raise Failure(LATER, f"{self.path}/spool/{self.name}{end} {its}, and had {size} in the copy that was made: copy it again, or name another copy")
 
     def put_spool(self, target: Target) -> None:
         """Copies the spool's files."""

@@ -14,6 +14,7 @@ from .texts import is_name, printable
 from .values import NamedTuple
 
 _TIMES = ("time", "timegrade")
+_ANSWER = "uuspool-answer"  # the command of a bundle
 _OURS = (*_TIMES, "max-retries", "success-wait", "system", "timetable")
 _STAY = frozenset(
     "alternate default-alternates call-local-size call-remote-size called-local-size called-remote-size baud speed baud-range "
@@ -183,8 +184,8 @@ def queued_here(library: str, spool: str, owner: str, job: Waiting) -> str:
 
 
 def _task(words: Sequence[str]) -> tuple[list[str], str]:
-    """The kind and the words of a job here, and the file of its bytes, for a line of Taylor's."""
-    if words[:1] == ["E"] and len(words) > 9 and is_name(words[5]):
+    """The kind and the words of a job here, and the file of its bytes, for a line of Taylor's. (A bundle is no job.)"""
+    if words[:1] == ["E"] and len(words) > 9 and is_name(words[5]) and words[9] != _ANSWER:
         return ["exec", *words[9:]], words[5]
     if words[:1] == ["S"] and len(words) > 6 and not words[2].startswith(("X.", "D.")) and "C" in words[4] and is_name(words[5]):
         return ["send", words[1], words[2]], words[5]

@@ -58,11 +58,11 @@ class Turn(files.Lock):
         return True
 
 
-def opened(path: str, flags: int, folder: int | None = None) -> int:
-    """An open file, which has to be a regular file with one name."""
+def opened(path: str, flags: int, folder: int | None = None, any_names: bool = False) -> int:
+    """An open file, which has to be a regular file with one name, or with any number of them."""
     handle = os.open(path, flags | os.O_NOFOLLOW | os.O_NONBLOCK | os.O_CLOEXEC, dir_fd=folder)
     seen = os.fstat(handle)
-    if not stat.S_ISREG(seen.st_mode) or seen.st_nlink != 1:
+    if not stat.S_ISREG(seen.st_mode) or not (any_names or seen.st_nlink == 1):
         os.close(handle)
         raise OSError(errno.EINVAL, "is no regular file with one name", path)
     return handle

@@ -1,4 +1,4 @@
--- Two spools and a wire, as in custody, where the sender's spool is copied now and then. Such a copy
+-- Two spools and a wire, as in custody. The sender's spool is copied now and then. Such a copy
 -- may be put back later and renumbered, so that it gives none of the numbers that went on the wire
 -- since. (What is kept of a copy, and the premise for putting it back, are this project's choice.)
 use Rattle.std.specs.Prelude.{◌≡◌, ◌⊎◌, ⊤, ℕ, ◌<◌, ◌≤◌, Bool, true, ◌&&◌, nat_lt, nat_le, List, [], ◌∷◌, ◌++◌, filter, All, Contains}
@@ -13,8 +13,8 @@ pub record Copy : Type 0 where
   pub spool : State
   pub killed : List ℕ
 
--- The two spools and the wire, where the killed jobs are those of the past of the sender's spool as
--- it stands. The copies of the sender's spool that may still be put back. The numbers of jobs that
+-- The two spools and the wire. The killed jobs are those of the past of the sender's spool as it
+-- stands. The copies of the sender's spool that may still be put back. The numbers of jobs that
 -- were killed in a past that was given up, since an earlier copy was put back. Whether each copy that
 -- was put back was the newest of those that were kept.
 pub record History : Type 0 where
