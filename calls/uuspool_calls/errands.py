@@ -118,7 +118,7 @@ def fate(said: list[str], job: Job, name: str) -> Fate:
     """What became of the job that has this name in the log. What was said last counts, because Taylor tries again after
     some errors."""
     job, _ = plain(job)
-    origin, _, here = name.partition(" to ") if job.kind == "request" else (name, "", "")
+    origin, here = _names(job, name)
     went, why = False, ""
     for text in said:
         if _went(text, job, here or origin):
@@ -126,6 +126,20 @@ def fate(said: list[str], job: Job, name: str) -> Fate:
         elif text.startswith("ERROR: ") and (reason := _reason(text.removeprefix("ERROR: "), (origin, here))):
             why = reason
     return Fate(went, why)
+
+
+def sendings(said: list[str], job: Job, name: str) -> list[int]:
+    """Which of these lines say that the job is sent or fetched."""
+    job, _ = plain(job)
+    origin, here = _names(job, name)
+    its = here or origin
+    return [at for at, text in enumerate(said) if its in text and _went(text, job, its)]
+
+
+def _names(job: Job, name: str) -> tuple[str, str]:
+    """The names of a job in the log: the file at its origin, and where a fetched one comes to."""
+    origin, _, here = name.partition(" to ") if job.kind == "request" else (name, "", "")
+    return origin, here
 
 
 def was_queued(said: list[str], name: str) -> bool:
