@@ -35,8 +35,8 @@ HERE = about("copied", "0a", "w")  # the copy that is put back
 
 
 class Log(Folder):
-    def said(self, mark: str = "0a", jobs: Iterable[int] = range(1, 10)) -> logged.Said:
-        return logged.read(f"{self.folder}/log", "", "w", mark, jobs)
+    def said(self, mark: str = "0a", jobs: Iterable[int] = range(1, 10), times: Iterable[str] = ()) -> logged.Said:
+        return logged.read(f"{self.folder}/log", "", "w", mark, jobs, times)
 
     def test_which_jobs_are_gone(self) -> None:
         others = line(2, 8, "kill 8", "NoJob") + line(2, 9, "x", "waits") + line(2, "-", "load") + "settle\n\n" + line(2, "1" * 30, "kill") + line(2, "x", "kill")
@@ -66,6 +66,60 @@ class Log(Folder):
         self.assertEqual([None, None, (16, ())], [said.lost.get(number) for number in (1, 2, 3)])
         self.put("log", HERE + chains + gone + line(15, 12, "settle"))
         self.assertNotIn(1, self.said().lost)
+
+    def test_a_line_of_many_words_is_one_line(self) -> None:
+        """Whoever had the program refuse long words chose where they go on."""
+        forged = line(2, 1, "kill 1").rstrip()
+        for size in 1 << 16, 1 << 20:
+            for before in size, size - 1:
+                refused = line(1, 9, "exec x", "TooLarge")
+                self.put("log", HERE + f"{refused.rstrip()} ".ljust(before, "x") + forged + " x" * size + "\n" + line(3, 3, "kill 3"))
+                self.assertEqual(([3], []), (sorted(self.said().gone), self.said().faults), (size, before))
+        with mock.patch.object(logged, "_MOST", len(forged) + 9):
+            self.put("log", HERE + "x" * 100 + forged + "\n" + line(3, 3, "")[:9])
+            self.assertEqual({}, self.said().gone)
+
+    def test_a_copy_in_which_a_job_is_half_moved(self) -> None:
+        """It was made when the job was queued anew, and not yet removed."""
+        first, again, ends = about("copied", "0b", "w"), line(2, 5, "send -gN --once=mysite!1!again -- duke a b"), line(3, 1, "kill 1")
+        restored = about("restored", "0a", "w")
+        for text, gone in (
+            (first + again + HERE + ends, [1]),
+            (first + again + HERE + ends + line(4, 5, "settle"), [1, 5]),
+            (first + again + HERE + ends + restored + ends, [1]),
+            (first + again + HERE + ends + restored + ends + line(4, 5, "settle"), [1, 5]),
+            (first + HERE + again + ends, [1]),
+            (first + HERE + again + restored + ends, [1]),
+        ):
+            self.put("log", text)
+            said = self.said(jobs=(1, 5) if again + HERE in text else (1,))
+            lost = [1] if HERE + again + ends in text else []
+            self.assertEqual((gone, lost), (sorted(said.gone), sorted(said.lost)), text)
+
+    def test_which_jobs_stood_for_others(self) -> None:
+        """Notes of what Taylor has of these are brought over, so that it is taken back."""
+        text = HERE + line(2, 5, "send -gN --once=mysite!1!again -- duke a b") + line(3, 6, "send -gN --once=mysite!5!again -- duke a b") + line(3, 7, "send a b")
+        self.put("log", line(1, 4, "send -gN --once=mysite!3!again -- duke a b") + text)
+        self.assertEqual(({5, 6}, {6}), (self.said(jobs=(1, 2)).others, self.said(jobs=(1, 5)).others))
+        self.put("log", text.removeprefix(HERE))
+        self.assertEqual(set(), self.said(jobs=(1, 2)).others)
+
+    def test_what_a_restoration_that_put_nothing_back_was_to_queue(self) -> None:
+        """Its numbers may be given to other jobs later. Lines with smaller numbers aren't its own."""
+        begun = f"{DAY} 01:00:00 - uucp - restoring 0a w t1 1000 from /copies/a\n"
+        anew, moved = line(2, 1000, "send -gN --once=mysite!1!again -- duke a b"), line(2, 50, "send -gN --once=mysite!2!again -- duke a b")
+        ends = line(3, 1000, "settle") + line(3, 2, "kill 2")
+        for text, gone in (HERE + begun + anew + ends, [2]), (HERE + begun + moved + ends, [2]), (HERE + begun + line(2, 9, "send a b") + anew + ends, [1, 2]):
+            self.put("log", text)
+            said = self.said(jobs=(1, 2))
+            self.assertEqual((gone, [2] if moved in text else []), (sorted(said.gone), sorted(said.lost)), text)
+
+    def test_pieces_of_mail_that_came_by_taylor_are_no_job_s(self) -> None:
+        """Their mark has the number of a file, and its time."""
+        piece = f"exec -gN -- mysite uuspool-piece {'0a' * 32}.9.3.5-1796065232000000000 0 exec rmail x"
+        for ends, gone in (line(3, 5, "settle"), [5]), ("", []):
+            self.put("log", HERE + line(2, 10, piece).replace("ann", "tay!joe") + line(3, 10, "done mysite x") + ends)
+            self.assertEqual((gone, []), (sorted(self.said().gone), sorted(self.said().lost)))
 
     def test_what_was_handed_on_in_pieces(self) -> None:
         def piece(number: int, of: str, at: int, user: str = "unc!joe") -> str:
@@ -99,6 +153,25 @@ class Log(Folder):
             self.assertEqual((gone, bool(gone)), (sorted(said.gone), said.has_mark), text)
         self.put("log", killed[9] + HERE + others + killed[7])
         self.assertEqual((9, {}), (self.said().greatest, self.said().gone))
+
+    def test_a_restoration_that_was_killed(self) -> None:
+        """What came behind its first line counts if the spool was put back at that time."""
+        killed = [line(2, number, f"kill {number}") for number in range(1, 5)]
+        init, begun = line(1, "-", "init"), [f"{DAY} 01:00:00 - uucp - restoring 0a {word} {time} from /copies/a\n" for word, time in (("w", "t1"), ("w", "t2"), ("v", "t3"))]
+        anew = line(2, 11, "send -gN --once=mysite!1!again -- duke a b")
+        for text, times, gone in (
+            (init + begun[0] + killed[1], ["t1"], [2]),
+            (init + begun[0] + killed[1], [], []),
+            (init + begun[0] + killed[1] + begun[1] + killed[2] + about("restored", "0a", "w") + killed[3], ["t2"], [3, 4]),
+            (HERE + killed[1] + begun[2] + killed[2], ["t3"], [2]),
+            (HERE + killed[1] + begun[2] + killed[2], [], [2, 3]),
+            (HERE + init + begun[0] + anew + line(2, 11, "settle"), ["t1"], [1]),
+            (HERE + init + begun[0] + anew + line(2, 11, "settle"), [], []),
+            (init + f"{DAY} 01:00:00 - uucp - restoring 0a w\n" + killed[1], [""], []),
+        ):
+            self.put("log", text)
+            said = self.said(times=times)
+            self.assertEqual(gone, sorted(said.gone), (text, times))
 
     def test_what_stood_for_a_job_before_a_copy_was_put_back(self) -> None:
         """1 was moved, and waits again then. 2 was moved, and what stood for it is done, so it is. 3 was handed on in pieces, of which one
@@ -169,15 +242,30 @@ class History:
     def __init__(self, seed: int, path: str) -> None:
         self.random, self.path = random.Random(seed), path
         self.jobs: dict[int, int] = {}  # the thing of each job that waits
+        self.half: dict[int, int] = {}  # jobs that were queued anew, and those for which they stand, which wait, too
         self.ended: set[int] = set()  # things that came to a neighbour, or were killed
-        self.copies: list[tuple[str, dict[int, int]]] = []
+        self.copies: list[tuple[str, dict[int, int], dict[int, int]]] = []
         self.next, self.things = 1, 0
         self.log: list[str] = []
 
     def step(self) -> None:
-        does = self.random.choice(["queue", "queue", "move", "move", "hand_on", "end", "end", "copy", "put_back"])
-        if does in ("queue", "copy") or (self.copies if does == "put_back" else self.jobs):
+        does = self.random.choice(["queue", "queue", "move", "move", "half_move", "finish", "hand_on", "end", "end", "copy", "put_back"])
+        if does in ("queue", "copy") or {"put_back": self.copies, "finish": self.half}.get(does, self.whole()):
             getattr(self, does)()
+
+    def whole(self) -> list[int]:
+        """The jobs that wait and aren't half moved."""
+        return sorted(self.jobs.keys() - self.half.keys() - set(self.half.values()))
+
+    def half_move(self) -> None:
+        number = self.random.choice(self.whole())
+        self.half[self.next] = number
+        self.queue(f"send -gN --once=mysite!{number}!again -- duke a b", self.jobs[number])
+
+    def finish(self) -> None:
+        number = self.half.pop(self.random.choice(sorted(self.half)))
+        self.jobs.pop(number)
+        self.log.append(line(1, number, "kill"))
 
     def queue(self, line: str = "send -gN -- duke a b", thing: int | None = None) -> None:
         self.things += thing is None
@@ -186,7 +274,7 @@ class History:
         self.next += 1
 
     def move(self, how: str = "again", end: str = "kill") -> None:
-        number = self.random.choice(sorted(self.jobs))
+        number = self.random.choice(self.whole())
         self.queue(f"send -gN --once=mysite!{number}!{how} -- duke a b", self.jobs.pop(number))
         self.log.append(line(1, number, end))
 
@@ -194,29 +282,30 @@ class History:
         self.move("onward", "done mysite")
 
     def end(self) -> None:
-        number = self.random.choice(sorted(self.jobs))
+        number = self.random.choice(self.whole())
         self.ended.add(self.jobs.pop(number))
         self.log.append(line(1, number, self.random.choice(["settle duke", "kill", "done duke"])))
 
     def copy(self) -> None:
-        self.copies.append((f"{len(self.copies):04}", dict(self.jobs)))
+        self.copies.append((f"{len(self.copies):04}", dict(self.jobs), dict(self.half)))
         self.log.append(about("copied", self.copies[-1][0], "w"))
 
     def put_back(self) -> None:
         """Does what `Restoration` does with what the log says."""
-        mark, jobs = self.random.choice(self.copies)
+        mark, jobs, half = self.random.choice(self.copies)
         with open(self.path, "w", encoding="ascii") as file:
             file.writelines(self.log)
         said = logged.read(self.path, "", "w", mark, jobs)
         self.jobs = {number: thing for number, thing in jobs.items() if number not in said.gone or number in said.lost and not said.lost[number].line}
         for number in said.gone.keys() & said.lost.keys() - self.jobs.keys():
             self.queue(" ".join(said.lost[number].line[1:]), jobs[number])
+        self.half = {number: of for number, of in half.items() if number in self.jobs and of in self.jobs}
         self.log.append(about("restored", mark, "w"))
         self.expect(sorted(set(jobs.values()) - self.ended))
 
     def expect(self, things: list[int]) -> None:
         """Just these wait, each once."""
-        if sorted(self.jobs.values()) != things:
+        if sorted(self.jobs[number] for number in self.jobs.keys() - self.half.keys()) != things:
             raise AssertionError(f"{things} should wait, and not {self.jobs}, after\n{''.join(self.log)}")
 
 
@@ -407,9 +496,10 @@ class Numbers(Folder):
                 restore.run(Quiet(self.folder), words)
 
     def test_the_numbers_that_were_given_up(self) -> None:
-        for text, times in ("", []), ("7 1000\n", [(7, 1000)]), ("7 1000\n9 2000\n", [(7, 1000), (9, 2000)]), ("x", []), ("7\n", []), ("7 -1\n", []), ("7 1000\n" * 10_000, []):
-            self.assertEqual(times, restored.given_up_in(text))
-        self.assertEqual("7 1000\n9 2000\n", restored.text_of([(7, 1000), (9, 2000), (7, 1000)]))
+        first, second, named = restored.Time(7, 1000), restored.Time(9, 2000), restored.Time(9, 2000, "0f")
+        for text, times in ("", []), ("7 1000\n", [first]), ("7 1000\n9 2000\n", [first, second]), ("7 1000\n9 2000 0f\n", [first, named]), ("x", []), ("7\n", []), ("7 -1\n", []), ("7 9 x y\n", []), ("7 1000\n" * 10_000, []):
+            self.assertEqual(times, restored.times_in(text))
+        self.assertEqual("7 1000\n9 2000 0f\n", restored.text_of([first, named, first]))
 
     def test_which_jobs_were_done(self) -> None:
         self.assertFalse(restored.was_done(self.folder, 1))

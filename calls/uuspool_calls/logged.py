@@ -3,7 +3,10 @@ was given. The file is read, and those that logrotate made of it, oldest first.
 
 `uuspool-backup` writes a line for each copy, and `uuspool-restore` for each that it puts back: the mark of the copy, and the word of its
 spool. They say which lines count. No clock does, and no line about another spool. If the log has no line of a copy, none
-counts, because a job that comes twice is better than none."""
+counts, because a job that comes twice is better than none.
+
+A restoration may be killed just behind the step that puts the copy back. So it writes a line before that, too, which counts if the
+spool has the word of that time."""
 import contextlib
 import os
 import re
@@ -15,18 +18,18 @@ from .session import acting_as
 from .values import Any, NamedTuple
 
 _MOST = 1 << 28  # bytes of a file, from its end
-_MOST_OF_A_LINE = 1 << 16
+_MOST_OF_A_LINE = 1 << 20  # of a longer one nothing counts: it was refused
 _MOST_FILES = 100  # the newest
 _MOST_ANEW = 1 << 20  # jobs that stand for others
 _FOLDER = os.O_RDONLY | os.O_DIRECTORY | os.O_CLOEXEC
 _ENDS = re.compile(r"(?:\.([0-9]{1,4})|-([0-9]{8}(?:-[0-9]+)?))?(\.gz)?\Z")  # of a file that logrotate made
-COPIED, RESTORED = "copied", "restored"  # the lines about copies
-_COPIES = (COPIED.encode(), RESTORED.encode())
+COPIED, RESTORING, RESTORED = "copied", "restoring", "restored"  # the lines about copies
+_COPIES = (COPIED.encode(), RESTORING.encode(), RESTORED.encode())
 _OTHERS = (b"init", b"renumber")  # the lines after which another spool may be there
 _GOES = (b"settle", b"done", b"kill")  # the lines that remove a job
 _QUEUES = (b"send", b"exec", b"request")
 _ANEW = re.compile(rb"-g[!-~] --once=[!-~]+!([1-9][0-9]{0,9})!(again|onward|request) -- ([!-~]+(?: [!-~]+)*)\n?\Z")  # what stands for the job of this number
-_PIECE = re.compile(rb"-g[!-~] -- [!-~]+ uuspool-piece [0-9a-f]+\.[0-9]+\.[0-9]+\.([1-9][0-9]{0,9})-[0-9:-]+ ")  # of what a job of this number handed on
+_PIECE = re.compile(rb"-g[!-~] -- [!-~]+ uuspool-piece [0-9a-f]+\.[0-9]+\.[0-9]+\.([1-9][0-9]{0,9})-[0-9]{4}-[0-9][0-9]-[0-9][0-9]-[0-9:]+ ")  # of what a job of this number handed on
 
 
 class Line(NamedTuple):
@@ -48,17 +51,18 @@ class Said(NamedTuple):
 
     gone: dict[int, Line]
     lost: dict[int, Anew]  # those of them that wait again, because others stood for them, none of which is done: the last one
+    others: set[int]  # jobs that stood for them
     delivered: set[int]  # jobs that were delivered here, also the pieces with which files were
     greatest: int  # number of a job of any spool, or 0
     has_mark: bool  # whether it has a line of the copy. Otherwise it says nothing of its jobs
     faults: list[str]  # what couldn't be read, and why
 
 
-def read(path: str, owner: str, word: str, mark: str, jobs: Iterable[int]) -> Said:
+def read(path: str, owner: str, word: str, mark: str, jobs: Iterable[int], times: Iterable[str] = ()) -> Said:
     """What the log at a path says of jobs of the spool with this word since a copy of it was made or put back, whose lines have
-    this mark. For root the owner of the spool opens the files, who may put links there."""
+    this mark. It was put back at these times. For root the owner of the spool opens the files, who may put links there."""
     faults: list[str] = []
-    reading = _Reading(word, mark, frozenset(jobs))
+    reading = _Reading(word, mark, frozenset(jobs), frozenset(it.encode() for it in times))
     for words in _lines(path, owner, faults):
         reading.take(words)
     return reading.said(faults)
@@ -69,22 +73,27 @@ class _Reading:
     no other spool was made since. Those before the first line of the copy only say which jobs stand for each other. Only jobs of the copy
     are followed, and those that stand for them or for the same ones, which have greater numbers."""
 
-    def __init__(self, word: str, mark: str, jobs: frozenset[int]) -> None:
-        self._word, self._mark, self._jobs, self._followed = word.encode(), mark.encode(), jobs, set(jobs)
+    def __init__(self, word: str, mark: str, jobs: frozenset[int], times: frozenset[bytes]) -> None:
+        self._word, self._mark, self._jobs, self._followed, self._times = word.encode(), mark.encode(), jobs, set(jobs), times
         self._gone: dict[int, Line] = {}
         self._done: set[int] = set()  # those for which none stood when they went
         self._anew: dict[int, Anew] = {}  # what stood for each, the last time
         self._stands_for: dict[int, int] = {}  # for which one each stood
         self._pieces: dict[int, list[list[int]]] = {}  # in which each was handed on, once or again
-        self._moved: set[int] = set()  # those for which one stands since a copy was put back last
+        self._open: set[int] = set()  # those for which one stands, and that wait, too, because they are removed behind that
+        self._open_in: dict[bytes, set[int]] = {}  # in each copy
         self._delivered: set[int] = set()
         self._greatest = 0
         self._has_mark = self._is_its = False
+        self._never_given = 0  # the first number of a restoration that was begun just now and put nothing back
 
     def take(self, words: list[bytes]) -> None:
         """Takes the next line."""
+        never_given, self._never_given = self._never_given, 0
         if words[5] in _COPIES:
             self._take_copy(words)
+        elif never_given and _stands_for(words) and int(words[4]) >= never_given:
+            self._never_given = never_given
         elif words[5] == b"done" and words[6] in _OTHERS:
             self._is_its = False
         elif words[4].isdigit():
@@ -94,32 +103,43 @@ class _Reading:
                 self._take_job(number, words)
 
     def _take_copy(self, words: list[bytes]) -> None:
-        self._is_its = len(words) > 7 and words[7].split()[:1] == [self._word]
-        if self._is_its and words[6] == self._mark and not self._has_mark:
+        its = words[7].split() if len(words) > 7 else []
+        if words[5] == RESTORING.encode() and not self._times.intersection(its[1:2]):
+            # (It was never put back then, and gave no numbers.)
+            self._never_given = int(its[2]) if len(its) > 2 and its[2].isdigit() else 0
+            return
+        self._is_its, is_marked = its[:1] == [self._word], words[6] == self._mark
+        if self._is_its and is_marked and not self._has_mark:
             self._has_mark, self._followed = True, set(map(self._first, self._jobs))
-        if self._is_its and words[5] == RESTORED.encode():
-            self._moved.clear()
+        if self._is_its and words[5] == COPIED.encode():
+            self._open_in[words[6]] = set(self._open)
+        elif self._is_its:
+            self._open = set(self._open_in.get(words[6], ()))
 
     def _take_job(self, number: int, words: list[bytes]) -> None:
         if found := _stands_for(words):
             of, anew = found
             is_known = len(self._stands_for) < _MOST_ANEW  # (Otherwise the other one waits.)
-            if self._has_mark and self._first(of) in self._followed:
-                self._moved.add(of)
+            if self._is_followed(of):
                 self._anew |= {of: anew} if is_known else {}
             self._stands_for |= {number: of} if is_known else {}
-        elif (of := _is_piece_of(words)) and self._has_mark and self._first(of) in self._followed:
-            if of not in self._moved or of not in self._pieces:
+            self._open.add(of)
+        elif (of := _is_piece_of(words)) and self._is_followed(of):
+            if of not in self._open or of not in self._pieces:
                 self._pieces.setdefault(of, []).append([])
             self._pieces[of][-1].append(number)
-            self._moved.add(of)
+            self._open.add(of)
             self._followed.add(number)
-        elif self._has_mark and self._first(number) in self._followed:
-            if words[5] == b"delivered":
-                self._delivered.add(number)
-            elif words[6] in _GOES:
+        elif words[5] == b"delivered":
+            self._delivered |= {number} if self._is_followed(number) else set()
+        elif words[6] in _GOES:
+            if self._is_followed(number):
                 self._gone[number] = Line(b" ".join(words[:2]).decode(errors="replace"), words[6].decode())
-                self._done |= {number} - self._moved
+                self._done |= {number} - self._open
+            self._open.discard(number)
+
+    def _is_followed(self, number: int) -> bool:
+        return self._has_mark and self._first(number) in self._followed
 
     def said(self, faults: list[str]) -> Said:
         """What all lines say. Jobs that stand for each other are one thing. If one of them is done, all are. Otherwise one waits: one that
@@ -133,7 +153,12 @@ class _Reading:
             kept[self._first(number)] = number
         gone = {it: done.get(self._first(it)) or self._gone[it] for it in self._jobs if it in self._gone or self._first(it) in done}
         lost = {it: self._last(it, done) for it in gone if self._first(it) not in done and kept[self._first(it)] == it}
-        return Said(gone, lost, self._delivered, self._greatest, self._has_mark, faults)
+        return Said(gone, lost, self._others(), self._delivered, self._greatest, self._has_mark, faults)
+
+    def _others(self) -> set[int]:
+        """The jobs that stood for those of the copy, and aren't there."""
+        parts = {number for times in self._pieces.values() for its in times for number in its}
+        return ({it for it in self._stands_for if self._is_followed(it)} | parts) - self._jobs
 
     def _first(self, number: int) -> int:
         """The first of the jobs that stand for each other."""
@@ -176,7 +201,7 @@ def _lines(path: str, owner: str, faults: list[str]) -> Iterator[list[bytes]]:
     for file in _opened(path, owner, faults):
         with file:
             try:
-                while line := file.readline(_MOST_OF_A_LINE):
+                while line := file.readline():
                     words = line.split(maxsplit=7)
                     if len(words) > 6 and words[5] in (b"done", b"delivered", *_COPIES) and len(words[4]) < 20:
                         yield words
@@ -230,14 +255,24 @@ class _File:
             self._file = gzip.GzipFile(fileobj=self._plain)
         elif (size := os.fstat(handle).st_size) > _MOST:
             self._plain.seek(size - _MOST)
+            self.readline()  # (Its beginning isn't there.)
 
-    def readline(self, most: int) -> bytes:
-        """A line, or so many bytes of it."""
+    def readline(self) -> bytes:
+        """The next line, or nothing at the end. One that is too long is an empty one: whoever wrote its words mustn't choose where
+        another line begins."""
+        line = self._part()
+        if len(line) < _MOST_OF_A_LINE or line.endswith(b"\n"):
+            return line
+        while (part := self._part()) and not part.endswith(b"\n"):
+            pass
+        return b"\n"
+
+    def _part(self) -> bytes:
         if self._read > _MOST:
             raise ValueError(f"has more than {_MOST >> 20} MiB, which aren't read")
-        line: bytes = self._file.readline(most)
-        self._read += len(line)
-        return line
+        part: bytes = self._file.readline(_MOST_OF_A_LINE)
+        self._read += len(part)
+        return part
 
     def __enter__(self) -> "_File":
         return self

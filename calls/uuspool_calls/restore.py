@@ -96,6 +96,7 @@ class Restoration:
         self.faults: list[str] = []  # what couldn't be read or brought over, and why
         self._other = Known(0, [])  # of the spool that is there, if it isn't the copy's
         self._is_same = False  # whether the spool that is there has the word of the copy's
+        self._times: list[restored.Time] = []  # when the copy's spool was put back before
         self._why = ""  # the program failed
 
     def make(self, least: int) -> None:
@@ -110,19 +111,21 @@ class Restoration:
         with turn.Turn(self._settings.spool, self._session.setting("UUSPOOL_PATIENCE", 60), self._owner) as its_turn, contextlib.ExitStack() as stack:
             its_turn.wait_for_it(self._pause)
             present = self._present(room, its_turn, stack)
+            self._times = self._times_before()
             said = self._said(copy.jobs)
             self.faults += (f"{it}, so jobs of which it says that they are done may wait again" for it in said.faults)
             number = _number(least, copy.next, present.next, said.greatest)
             gone = [Gone(job, said.gone[job.number], said.lost.get(job.number)) for job in copy.jobs if job.number in said.gone]
             anew = self._change(made, number, gone)
-            self._fill(made, {job.number for job in copy.jobs} | self._read(self._handed()).gone.keys())
-            made.put_text(restored.NAME, restored.text_of([*self._given_up(), (copy.next, number)]), self._place.seen)
+            self._fill(made, {job.number for job in copy.jobs} | said.others | self._read(self._handed()).gone.keys())
+            time = restored.Time(copy.next, number, os.urandom(8).hex())
+            made.put_text(restored.NAME, restored.text_of([*self._times, time]), self._place.seen)
             made.sync()
             self._session.processes.check()
             # (A stop that comes once it is put back ends nothing.)
             with contextlib.suppress(Stopped), self._session.processes.finishing():
                 self._place.expect_nobody()
-                path = self._put_in_place(made, gone, anew, number)
+                path = self._put_in_place(made, gone, anew, time)
         known = {job.number for job in copy.jobs} | said.gone.keys() | {it.lost.number for it in gone if it.lost}
         try:
             if not said.has_mark:
@@ -133,16 +136,14 @@ class Restoration:
         except OSError as error:
             self.faults.append(f"standard output can't be written, and lacks what was done: {error.strerror}")
 
-    def _put_in_place(self, made: Target, gone: Sequence[Gone], anew: Mapping[int, int], number: int) -> str:
-        """Exchanges the folders. Where the one that was there is then. The log says what was queued anew before anybody can work
-        with that, and at once that the copy was put back, whatever stops this."""
-        if self._is_same:
-            self._note_anew(gone, anew)
+    def _put_in_place(self, made: Target, gone: Sequence[Gone], anew: Mapping[int, int], time: restored.Time) -> str:
+        """Exchanges the folders. Where the one that was there is then. Before anybody can work with the spool that is put back, the log
+        says so, and what was queued anew in it. That counts once it is put back, whatever stops this."""
+        user, which = user_name(self._place.seen.st_uid), f"{self._source.mark or '-'} {self._source.word}"
+        self._note("", user, "", logged.RESTORING, f"{which} {time.word} {time.end} from {self._source.path}", lasts=True)
+        self._note_anew(gone, anew)
         path = self._exchange(made)
-        which = f"{self._source.mark or '-'} {self._source.word} from {self._source.path}"
-        self._note("", user_name(self._place.seen.st_uid), "", logged.RESTORED, f"{which}: the next job gets {number} or a later number", lasts=True)
-        if not self._is_same:
-            self._note_anew(gone, anew)
+        self._note("", user, "", logged.RESTORED, f"{which} from {self._source.path}: the next job gets {time.end} or a later number", lasts=True)
         for job, line, lost in gone:
             if not lost:
                 self._note(job.system, job.user, job.number, "done-before", f"{line.how}: {job.what}")
@@ -171,7 +172,7 @@ class Restoration:
 
     def _read(self, jobs: Collection[int]) -> logged.Said:
         """What the log says of jobs since the copy was made."""
-        return logged.read(self._settings.log, self._owner, self._source.word, self._source.mark, jobs)
+        return logged.read(self._settings.log, self._owner, self._source.word, self._source.mark, jobs, [it.word for it in self._times])
 
     def _handed(self) -> set[int]:
         """The jobs of which notes say that Taylor UUCP has them."""
@@ -214,12 +215,12 @@ class Restoration:
         self._other = known
         return Known(0, [])
 
-    def _given_up(self) -> list[restored.GivenUp]:
-        """The numbers that were given up before: in the past of the copy, and in that of the spool that is there, if it is the copy's.
-        Another spool gave the first ones, so neighbours may have heard that they don't come again."""
+    def _times_before(self) -> list[restored.Time]:
+        """When spools were put back: in the past of the copy, and in that of the spool that is there, if it is the copy's.
+        Another spool gave the first numbers, so neighbours may have heard that they don't come again."""
         texts = [self._source.text(restored.NAME), self._present_text(restored.NAME) if self._is_same else ""]
-        others = [(1, self._other.next)] if self._other.next > 1 else []
-        return [*others, *(it for text in texts for it in restored.given_up_in(text))]
+        others = [restored.Time(1, self._other.next)] if self._other.next > 1 else []
+        return [*others, *(it for text in texts for it in restored.times_in(text))]
 
     def _present_text(self, name: str) -> str:
         """What a file in the folder that is there says, or nothing if it can't be read."""
