@@ -2,10 +2,11 @@
 import os
 import pwd
 import signal
+import time
 from unittest import mock
 from unittest.mock import patch
 
-from uuspool_calls import call, carriers, check, cli, expire, files, hold, move, night, setup, sysfile, taylor
+from uuspool_calls import bundle, call, carriers, check, cli, expire, files, hold, move, night, setup, sysfile, taylor
 from uuspool_calls.carriers import folder, ssh, uucico
 from uuspool_calls.errors import Failure, Stopped
 from uuspool_calls.jobs import Job
@@ -217,6 +218,24 @@ class Carriers(Folder):
         sealed = folder.Folder(session, os.open(self.folder, os.O_RDONLY), self.folder, "duke", [self.put("sealer", "#!/bin/sh\ncat\n[ $1 != open ]\n", 0o755)])
         sealed.put("a-b.bundle", b"sealed")
         self.assertEqual((b"sealed", None), (self.bytes_of("a-b.bundle"), sealed.opened("a-b.bundle")))
+
+    def test_a_sealed_bundle_in_a_folder_that_is_too_large_when_it_is_opened(self) -> None:
+        sealer = self.put("sealer", f"#!/bin/sh\n. {self.folder}/does\n", 0o755)
+        session, most = Quiet(self.folder, UUSPOOL_CALL_LIMIT="60"), bundle.MOST
+        shared = folder.Folder(session, os.open(self.folder, os.O_RDONLY), self.folder, "duke", [sealer])
+        self.put("a-b.bundle", "small")
+        for size, length in (most, most), (most + 1, 0), (40_000_000, 0):
+            self.put("does", f"head -c {size} /dev/zero")
+            self.assertEqual(length, len(shared.opened("a-b.bundle") or b""), size)
+        self.assertEqual([f"{self.folder}/a-b.bundle: {sealer} printed more than {most} bytes, so this site cannot open it"] * 2, session.said)
+        self.put("does", f"head -c {(1 << 24) + 1} /dev/zero")
+        with self.assertRaisesRegex(Failure, f"^a-b.bundle cannot be written in .*: {sealer} printed more than 16777216 bytes$"):
+            shared.put("a-b.bundle", b"text")
+        self.assertEqual(b"small", self.bytes_of("a-b.bundle"))
+        session.environment["UUSPOOL_CALL_LIMIT"] = "1"
+        self.put("does", "exec sleep 30")
+        began = time.monotonic()
+        self.assertEqual((None, True), (shared.opened("a-b.bundle"), time.monotonic() - began < 20))
 
 
 class Queue(taylor.Taylor):

@@ -5,6 +5,7 @@ import json
 import os
 import shutil
 import unittest
+from functools import partial
 from unittest import mock
 
 from uuspool_calls import clock, deliver, files, outgoing, pieces, records, refusals
@@ -509,11 +510,11 @@ class Going(Folder):
         self.spool = StandIn()
         self.site = site(self.folder, self.spool)
 
-    def queue(self, data: bytes, *words: str) -> list[tuple[str, ...]]:
+    def queue(self, data: bytes, *words: str, notes: outgoing.Notes = outgoing.Notes()) -> list[tuple[str, ...]]:
         self.spool.asked = []
         what = outgoing.Parcelled("duke", "duke!ann", "B", "mysite!7!request", "7-x", ("send", "~/f", "~/g", *words))
         with memory_file(data) as content:
-            outgoing.queue(self.site, what, content)
+            outgoing.queue(self.site, what, content, notes)
         return self.spool.asked
 
     def test_a_file_that_grows_while_it_is_read(self) -> None:
@@ -557,6 +558,31 @@ class Going(Folder):
             self.spool.parcels[number] = parcel(f"{number} duke duke!ann B 2026-11-28 10:00:00 5 exec {' '.join(words[4:])}")
         self.site.settings = self.site.settings._replace(limit=600_000)
         self.assertEqual(asked[2:], self.queue(data))
+
+    def test_pieces_that_have_gone_together_are_not_queued_again(self) -> None:
+        """A neighbour with plain Taylor UUCP gets them as one job, and knows nothing of them. Another one knows each."""
+        data, kept = bytes(2_500_000), list[str]()
+        notes = outgoing.Notes(partial(kept.append, "begins"), partial(kept.append, "ends"), lambda: kept[-1:] == ["ends"])
+        self.put("lib/uuspool/carriers/taylor", "#!/bin/sh\n", 0o755)
+        for carrier, again in ("taylor", 0), ("taylor --no-call", 0), ("", 3):
+            self.put("etc/calls/duke", carrier and f"{carrier}\n")
+            kept.clear()
+            self.spool.parcels.clear()
+            asked = self.queue(data, notes=notes)
+            self.assertEqual((3, ["begins", "ends"]), (len(asked), kept))
+            self.assertEqual(again, len(self.queue(data, notes=notes)))
+            kept.append("ends")
+            self.spool.parcels[1] = parcel(f"1 duke duke!ann B 2026-11-28 10:00:00 5 exec {' '.join(asked[0][4:])}")
+            self.assertEqual(asked[1:], self.queue(data, notes=notes), "one that waits")
+            self.spool.parcels.clear()
+            kept[:] = ["begins"]
+            self.assertEqual(asked, self.queue(data, notes=notes), "after a stop before the last one")
+
+    def test_a_single_piece_for_plain_taylor_is_queued_once(self) -> None:
+        self.put("lib/uuspool/carriers/taylor", "#!/bin/sh\n", 0o755)
+        for carrier, once in ("taylor\n", True), ("", False):
+            self.put("etc/calls/duke", carrier)
+            self.assertEqual(once, self.queue(b"x", "-m")[0][2] == "--once=mysite!7!request", carrier)
 
     def test_as_a_job_or_in_pieces(self) -> None:
         self.assertEqual([("send", "-gB", "--once=mysite!7!request", "--", "duke", "~/f", "~/g")], self.queue(bytes(1 << 20)))

@@ -39,6 +39,15 @@ class Public(Folder):
             self.assertGreater(seen[0], seen[1] + 86400)
             os.utime(f"{self.folder}/public/duke/.uuspool", (1, 1))
 
+    def test_the_mark_stays_newer_than_what_came_while_the_clock_was_ahead(self) -> None:
+        its, now = public.Public(f"{self.folder}/public", "mysite", "duke"), time.time()
+        with memory_file(b"x") as content:
+            with mock.patch.object(public.clock, "now", return_value=now + 30 * 86400):
+                its.put("x", content)
+            before = os.stat(f"{self.folder}/public/duke/.uuspool").st_mtime
+            its.put("y", content)
+        self.assertEqual((True, before), (before > now + 31 * 86400, os.stat(f"{self.folder}/public/duke/.uuspool").st_mtime))
+
     def test_no_settings_come(self) -> None:
         for path in "~/uuspool.toml", "~/a/uuspool.toml", "uuspool.toml", "~/uuspool.toml/x":
             with self.assertRaisesRegex(Refusal, "mysite takes no file uuspool.toml"):
@@ -321,21 +330,31 @@ class Envelopes(Folder):
     def mail(self, content: int, user: str = "duke!ann") -> Delivered:
         return Delivered("exec", ("rmail", "joe"), content, "duke", user, "mysite!7!2026-11-08.09:30:00")
 
-    def test_the_first_line_says_from_which_neighbour(self) -> None:
-        honest = b"From ann Sat Nov 28 12:00:00 2026 remote from duke\n>From joe x remote from unc\n\nhello"
-        for line in honest, b"From ann remote from duke\n", b"From a!b+c=d remote from duke\n>from x<y>\nFrom z\n":
+    def test_the_line_says_from_which_neighbour(self) -> None:
+        for line in b"From ann Sat Nov 28 12:00:00 2026 remote from duke\n\nhello", b"From ann remote from duke\n", b"From a!b+c=d remote from duke\nx":
             self.assertEqual(line, self.signed(line))
         for text, rest in (
-            (b"From president x remote from unc\nhello", b">From president x remote from unc\nhello"),
-            (b"From president remote from unc remote from duke\nhello", b">From president remote from unc remote from duke\nhello"),
-            (b">From x remote from unc\n", b">From x remote from unc\n"), (b"hello", b"hello"), (b"", b""), (b"From x remote from aduke", b">From x remote from aduke\n"),
-            (b"From remote from duke\n>From president x", b">From remote from duke\n>From president x\n"), (b"From  remote from duke\nx", b">From  remote from duke\nx"),
-            (b"From a\tremote from duke\nx", b">From a_remote from duke\nx"),
+            (b"From president x remote from unc\nhello", b"hello"), (b"From president remote from unc remote from duke\nhello", b"hello"),
+            (b">From x remote from unc\n", b""), (b"hello", b"hello"), (b"", b""), (b"From x remote from aduke", b""), (b"From boss x\nhello", b"hello"),
+            (b"From remote from duke\n>From president x", b""), (b"From  remote from duke\nx", b"x"), (b"From a\tremote from duke\nx", b"x"),
         ):  # fmt: skip
             first, _, after = self.signed(text).partition(b"\n")
             self.assertRegex(first, rb"^From ann [A-Z][a-z]{2} [A-Z][a-z]{2} [ \d]\d \d\d:\d\d:\d\d \d{4} remote from duke$")
             self.assertEqual(rest, after)
         self.assertEqual(b"From a!b Sun Nov  8 09:30:00 2026 remote from duke\n", self.signed(b"", "duke!a!b"))
+
+    def test_a_local_mailer_gets_one_line_with_the_whole_path(self) -> None:
+        """Exim takes one line `From`. What follows is a header, or else the headers become text."""
+        head = b"From unc!joe Sat Nov 28 12:00:00 2026 remote from duke\n"
+        for text, path in (
+            (head + b">From joe x remote from unc\n", b"unc!joe"), (head + b">From joe x\n", b"unc!joe"), (head.replace(b"unc!", b"phs!unc!") + b">From joe x remote from unc\n", b"phs!unc!joe"),
+            (head.replace(b"unc!joe", b"uucp") + b">From uucp x remote from unc\n>From joe x remote from phs\n", b"unc!phs!joe"), (head.replace(b"unc!joe", b"joe") + b">From joe x remote from unc\n", b"unc!joe"),
+            (head.replace(b"unc!joe", b"uucp") + b">From joe x\n", b"joe"), (head.replace(b"unc!joe", b"uucp") + b">From uucp x remote from unc\nFrom joe\n", b"unc!joe"),
+            (head + b">From boss x remote from phs\n", b"phs!boss"), (head + b">From boss x remote from mysite\n", b"mysite!boss"), (head + b">From boss x remote from a b c<ann@mysite>\n>From  x remote from b\n", b"unc!joe"),
+        ):  # fmt: skip
+            self.assertEqual(head.replace(b"unc!joe", path) + b"From: joe\n\n>From z\n", self.signed(text + b"From: joe\n\n>From z\n"), text)
+        for text, path in (b"From joe x\n", b"joe"), (b"From joe x remote from unc\n", b"unc!joe"), (b"", b"uucp"):
+            self.assertEqual(b"From " + path + b" Sun Nov  8 09:30:00 2026 remote from duke\nhello\n", self.signed(text + b"hello\n", "duke!uucp"))
 
     def test_mail_of_a_user_here_has_one_line_of_that_user(self) -> None:
         line = b"From ann Sun Nov  8 09:30:00 2026 remote from mysite\n"
@@ -348,7 +367,7 @@ class Envelopes(Folder):
         self.assertEqual(b"From b.example!joe x remote from mysite\nx", self.signed(b"From joe@b.example x remote from mysite\n>From joe@b.example x\nx", "joe@b.example", sender=""))
 
     def test_no_blank_makes_an_older_line_another_one(self) -> None:
-        self.assertEqual(b"From ann x remote from duke\n>From boss x\n", self.signed(b"From ann x remote from duke\nFrom\tboss x\n"))
+        self.assertEqual(b"From ann x remote from duke\n", self.signed(b"From ann x remote from duke\nFrom\tboss x\n"))
 
     def test_users_are_paths_of_plain_words(self) -> None:
         for user, path in (
@@ -366,7 +385,8 @@ class Envelopes(Folder):
             (b"From x<ann@mysite> a remote from duke\nhello", b"From mysite_!x_ann a remote from duke\nhello"),
             (b"From joe@b.example a remote from duke\nhello", b"From b.example!joe a remote from duke\nhello"),
             (b"From a~\xa0\xff x\0\x1b remote from duke\n", b"From a~__ x__ remote from duke\n"),
-            (head + b">From x<ann@mysite> y\n>From z remote from a<ann@mysite>\n\n<a@b>\n>From x<y>\n", head + b">From mysite_!x_ann y\n>From z remote from a_ann_mysite_\n\n<a@b>\n>From x<y>\n"),
+            (head + b">From x<ann@mysite> y\n>From z remote from a<ann@mysite>\n\n<a@b>\n>From x<y>\n", b"From a_ann_mysite_!z x remote from duke\n\n<a@b>\n>From x<y>\n"),
+            (head + b">From x<ann@mysite> y remote from b\n>From z remote from a<ann@mysite>\n", b"From b!a_ann_mysite_!z x remote from duke\n"),
         ):  # fmt: skip
             self.assertEqual(given, self.signed(text))
 
@@ -378,8 +398,10 @@ class Envelopes(Folder):
         self.assertEqual(b"x" * 6, self.signed(line + b">From x\n" * 8188 + b"x" * 6, most=1 << 17)[-6:])
 
     def test_mail_that_is_handed_on(self) -> None:
-        with memory_file(b"From a x remote from duke\n\n") as content, envelope.handed_on(self.mail(content, "duke!x<b@c>"), "mysite", self.folder) as given:
-            self.assertEqual(b"From duke!c_!x_b Sun Nov  8 09:30:00 2026 remote from mysite\n>From a x remote from duke\n\n", os.pread(given, 1000, 0))
+        """RFC 976 keeps older lines between systems."""
+        older = b">From a x remote from duke\n>From b x remote from unc\n\n"
+        with memory_file(older[1:]) as content, envelope.handed_on(self.mail(content, "duke!x<b@c>"), "mysite", self.folder) as given:
+            self.assertEqual(b"From duke!c_!x_b Sun Nov  8 09:30:00 2026 remote from mysite\n" + older, os.pread(given, 1000, 0))
 
     def test_large_mail_has_no_name(self) -> None:
         with memory_file(bytes(1_048_577)) as content, envelope.signed(self.mail(content), "mysite", self.folder) as given:

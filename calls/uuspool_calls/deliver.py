@@ -292,7 +292,8 @@ class Deliverer:
         key = f"{self._own}!{number}!{why}"
         what = outgoing.Parcelled(system, job.user, job.grade, key, outgoing.mark_of(job.name), (job.kind, *job.words))
         try:
-            outgoing.queue(self._site, what, job.content, partial(self._note_begun, number))
+            note = partial(self._note_pieces, number)
+            outgoing.queue(self._site, what, job.content, outgoing.Notes(note, partial(note, all_but_one=True), lambda: self._tries(number).all_but_one))
         except SpoolError as error:
             # (Before a stop it was queued, and the file has changed since.)
             if error.status == 1 and str(error).endswith("Differs"):
@@ -301,12 +302,18 @@ class Deliverer:
                 raise Refusal(f"{job.words[0]} cannot be sent from {self._own}: {error}") from None
             raise Delay(f"{job.words[0]} cannot be sent from {self._own} now: {error}") from None
 
-    def _note_begun(self, number: int) -> None:
+    def _note_pieces(self, number: int, all_but_one: bool = False) -> None:
         """Pieces have the moment of their job in their mark, and in their bytes if they are mail. So it is noted, because after a
-        stop the same pieces have to be queued."""
-        if parcel := self._site.spool.show(number):
-            with self._site.writing("deliver"):
-                records.Tries.read(self._folder, self._site.word(), parcel.job, clock.now()).write(self._folder, number)
+        stop the same pieces have to be queued, and none if all of them have gone."""
+        with self._site.writing("deliver"):
+            self._tries(number)._replace(all_but_one=all_but_one).write(self._folder, number)
+
+    def _tries(self, number: int) -> records.Tries:
+        """The record of a job that is being delivered."""
+        parcel = self._site.spool.show(number)
+        if parcel is None:
+            raise Delay(f"job {number} is gone")
+        return records.Tries.read(self._folder, self._site.word(), parcel.job, clock.now())
 
     def give_up(self, parcel: Parcel, why: str) -> int:
         """Refuses a job, and if it is a piece, its file as far as it came. If that can't be now it waits, and the jobs

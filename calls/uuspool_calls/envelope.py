@@ -1,6 +1,8 @@
 """The envelope of mail that a neighbour brings: its first line says from which neighbour the mail came, which is true
-whatever the neighbour wrote. The lines before it become `>From`, as RFC 976 has it. The users in these lines are paths of
-plain words, in which no mailer finds another address. Mail of a user of this site has one such line, of that user."""
+whatever the neighbour wrote. The local mailer gets this line alone, because Exim takes the next one for the end of the
+headers. Its user is the whole path that older lines say. Mail that goes on to another system keeps older lines as `>From`,
+as RFC 976 has it. The users in these lines are paths of plain words, in which no mailer finds another address. Mail of a
+user of this site has one such line, of that user."""
 import contextlib
 import itertools
 import os
@@ -11,8 +13,10 @@ from . import clock, files
 from .bundle import MOST_OF_A_JOB
 from .errors import Refusal
 from .jobs import Delivered
+from .texts import is_name
 
 _MOST = 1 << 16  # bytes of these lines
+_NOBODY = "uucp"  # the user of mail that a machine handed on
 _BEGINS = tuple(quote + b"From" + blank for quote in (b"", b">") for blank in (b" ", b"\t", b"\v", b"\f", b"\r"))  # (what Exim takes for a blank)
 _OF_WORDS = frozenset("ABCDEFGHIJKLMNOPQRSTUVWXYZabcdefghijklmnopqrstuvwxyz0123456789._+=&'~#^-")
 _OF_LINES = _OF_WORDS | frozenset(" !:")
@@ -33,19 +37,23 @@ def _plain(text: str, kept: frozenset[str]) -> str:
 
 @contextlib.contextmanager
 def signed(job: Delivered, own: str, folder: str) -> Iterator[int]:
-    """The open file of mail with such a first line, or the file itself if it has it. It is the same if the mail is delivered
-    again. Mail that is larger than a job is on the disk of a folder, and has no name there."""
+    """The open file of mail with such a line and no other, or the file itself if it has that. It is the same if the mail is
+    delivered again. Mail that is larger than a job is on the disk of a folder, and has no name there."""
     lines, length = _lines_of(job.content)
-    site, user = job.sender or own, plain_user(job.user.removeprefix(f"{job.sender}!")) or "uucp"
+    site, user = job.sender or own, plain_user(job.user.removeprefix(f"{job.sender}!")) or _NOBODY
     if not job.sender:
         # (No other site had it before, and a mailer may take the user of the last line.)
         lines = [it for it in lines[:1] if it.startswith(f"From {user} ") and _is_signed(it, own)]
-    if not lines or not _is_signed(lines[0], site):
-        lines.insert(0, _line(job, user, site))
-    if _text(lines) == os.pread(job.content, length, 0):
+    if lines and _is_signed(lines[0], site):
+        user, rest = _parted(lines[0])
+        line = f"From {_path(user, lines[1:])} {rest}"
+    else:
+        # (Another UUCP may give the mail of all to `uucp`. Otherwise the job's user is better known than older lines.)
+        line = _line(job, _path(user, lines) if user == _NOBODY else user, site)
+    if _text([line]) == os.pread(job.content, length, 0):
         yield job.content
         return
-    with _rewritten(lines, length, job, folder) as whole:
+    with _rewritten([line], length, job, folder) as whole:
         yield whole
 
 
@@ -81,6 +89,29 @@ def _lines_of(content: int) -> tuple[list[str], int]:
 def _plain_line(line: str) -> str:
     user, _, rest = line.removeprefix(">")[len("From ") :].partition(" ")
     return f"From {plain_user(user)} {_plain(rest, _OF_LINES)}"
+
+
+def _path(user: str, older: Sequence[str]) -> str:
+    """The path to the sender of mail with the user of a line and the lines before it. As RFC 976 has it, each line that says
+    from which system the mail came adds that system, and the oldest of them names the user."""
+    systems = [(system, _parted(it)[0]) for it in older if (system := _system_of(it))]
+    last = systems[-1][1] if systems else user
+    if last == _NOBODY:
+        last = next((its for it in reversed(older) if (its := _parted(it)[0])), last)
+    path = "!".join((*(system for system, _ in systems), last))
+    return user if f"!{user}".endswith(f"!{path}") else path
+
+
+def _parted(line: str) -> tuple[str, str]:
+    """The user of a line, and the rest."""
+    user, _, rest = line.removeprefix("From ").partition(" ")
+    return user, rest
+
+
+def _system_of(line: str) -> str:
+    """From which system a line says that the mail came, or nothing."""
+    system = line.rpartition(" ")[2]
+    return system if is_name(system) and _is_signed(line, system) else ""
 
 
 def _text(lines: Sequence[str]) -> bytes:

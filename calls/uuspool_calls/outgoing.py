@@ -1,6 +1,6 @@
 """What is queued here for a neighbour, in pieces if it is larger than a job."""
 import os
-from collections.abc import Callable, Iterator
+from collections.abc import Callable, Iterator, Sequence
 
 from . import carriers
 from .bundle import MOST_OF_A_JOB
@@ -22,31 +22,51 @@ class Parcelled(NamedTuple):
     words: tuple[str, ...]  # its kind, and the words of that
 
 
-def queue(site: Site, what: Parcelled, content: int, begins: Callable[[], None] = lambda: None) -> None:
+class Notes(NamedTuple):
+    """What whoever queues pieces keeps of that."""
+
+    begins: Callable[[], None] = lambda: None  # comes before the first one that is queued
+    ends: Callable[[], None] = lambda: None  # comes before the last of several, when all others wait
+    has_ended: Callable[[], bool] = lambda: False  # whether that came, perhaps before a stop
+
+
+def queue(site: Site, what: Parcelled, content: int, notes: Notes = Notes()) -> None:
     """Queues the bytes of an open file, as a job or in pieces. If a stop comes between two pieces, this is done again, and
-    queues those that don't wait. `begins` comes before the first of them. SpoolError if the spool doesn't take it. No piece is queued
-    if there isn't room for all."""
+    queues those that don't wait. SpoolError if the spool doesn't take it. No piece is queued if there isn't room for all.
+
+    A neighbour knows a piece that comes again, unless it has plain Taylor UUCP, where the pieces go together as one job. So if all of
+    them have gone there, none is queued again."""
     length = int(carriers.values_of(site.session, what.system).get("piece", 0))
     is_plain = what.words[0] == "exec" or len(what.words) == 3
     line = [f"--as={what.user}", "exec", f"-g{what.grade}", "--", what.system]
     if is_plain and os.fstat(content).st_size <= (length or MOST_OF_A_JOB):
         line[1], *words = what.words
-        if what.key:
-            site.will_forget_keys()
-            site.spool.ask(*line[:3], f"--once={what.key}", *line[3:], *words, given=content)
-        else:
-            site.spool.ask_once(*line, *words, given=content)
+        _ask(site, what.key, line, words, content)
         return
     waiting = {job.words for job in site.spool.waiting(what.system) if job.user == what.user}
+    go_together = carriers.has_plain_taylor(site.session, what.system)
+    if go_together and notes.has_ended() and not any((its := Piece.read(words)) and its.mark == what.mark for words in waiting):
+        return
     is_expected = False
     for piece, data in _cut(content, length or SIZE, what):
         if tuple(piece.line()) in waiting:
             continue
         if not is_expected:
             _expect_room(site, what, piece)
-            begins()
+            notes.begins()
             is_expected = True
-        site.spool.ask_once(*line, *piece.line(), given=data)
+        if piece.at and piece.at + piece.bytes == piece.size:
+            notes.ends()
+        _ask(site, what.key if go_together and piece.total == 1 else "", line, piece.line(), data)
+
+
+def _ask(site: Site, key: str, line: Sequence[str], words: Sequence[str], content: int | bytes) -> None:
+    """Queues a job, once if it has a key."""
+    if not key:
+        site.spool.ask_once(*line, *words, given=content)
+        return
+    site.will_forget_keys()
+    site.spool.ask(*line[:3], f"--once={key}", *line[3:], *words, given=content)
 
 
 def _expect_room(site: Site, what: Parcelled, first: Piece) -> None:

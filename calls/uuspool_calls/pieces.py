@@ -339,6 +339,9 @@ class Pieces:
             about = self._renamed(piece, folder)
         if about is None:
             os.makedirs(folder, exist_ok=True)
+            above = os.path.dirname(self._folder)
+            for its in self._folder, above, os.path.dirname(above):
+                files.sync_folder(its)
             about = About(piece, user, job)
             about.write(folder)
         return File(folder, about)

@@ -23,6 +23,7 @@ class Tries(NamedTuple):
     first: int
     why: str = ""
     came: str = ""
+    all_but_one: bool = False  # whether all pieces but the last one were queued for a neighbour
 
     @staticmethod
     def read(folder: str, word: str, job: Job, now: int) -> "Tries":
@@ -30,7 +31,7 @@ class Tries(NamedTuple):
         record = files.read_record(f"{folder}/{job.number}")
         try:
             if _is_about(record, word, job):
-                return Tries(record["job"], word, int(record["failed"]), int(record["next"]), int(record["first"]), str(record["why"]), str(record.get("came", "")))
+                return Tries(record["job"], word, int(record["failed"]), int(record["next"]), int(record["first"]), str(record["why"]), str(record.get("came", "")), record.get("all_but_one") is True)
         except (KeyError, TypeError, ValueError):
             pass
         return Tries(job.line, word, 0, 0, now)

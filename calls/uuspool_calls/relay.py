@@ -5,8 +5,9 @@ import codecs
 import contextlib
 import os
 import select
+import signal
 import stat
-from collections.abc import Sequence
+from collections.abc import Iterable, Iterator, Sequence
 
 from .errors import Stopped
 from .files import closing
@@ -19,8 +20,8 @@ _MOST_OF_A_PIPE = 1 << 20  # bytes, unless root allows more
 class _Output:
     """Where output goes. No terminal obeys what another user writes."""
 
-    def __init__(self, handle: int) -> None:
-        self.handle = handle
+    def __init__(self, handle: int, wake: int) -> None:
+        self.handle, self._wake = handle, wake
         self.pipe, self.end = os.pipe2(os.O_CLOEXEC)
         self.fault: OSError | None = None  # why not all of it went there
         self._decoder = codecs.getincrementaldecoder("utf-8")("replace") if os.isatty(handle) else None
@@ -29,7 +30,7 @@ class _Output:
         """Copies what comes next. False at the end, or if nobody takes it."""
         block = os.read(self.pipe, _BLOCK)
         try:
-            _write(self.handle, self._shown(block))
+            _write(self.handle, self._shown(block), self._wake)
         except OSError as fault:
             self.fault = fault
         return bool(block) and not self.fault
@@ -72,14 +73,15 @@ def run(program: Program, keeps: Sequence[int] = ()) -> int:
     its output couldn't be written, that is an error as if it had found that itself."""
     outputs: list[_Output] = []
     streams = [0 if 0 in keeps else os.open(os.devnull, os.O_RDONLY | os.O_CLOEXEC)]
-    for handle in 1, 2:
-        streams.append(handle if handle in keeps else _output_of(handle, outputs).end)
-    child = program.start((streams[0], streams[1], streams[2]))
-    _Stops(child)
-    for output in outputs:
-        os.close(output.end)
-    _copy(child, outputs)
-    status = child.wait()
+    with _woken_by_signals() as wake:
+        for handle in 1, 2:
+            streams.append(handle if handle in keeps else _output_of(handle, outputs, wake).end)
+        child = program.start((streams[0], streams[1], streams[2]))
+        _Stops(child)
+        for output in outputs:
+            os.close(output.end)
+        _copy(child, outputs, wake)
+        status = child.wait()
     for output in outputs:
         if output.fault and not status:
             raise output.fault
@@ -92,30 +94,51 @@ def goes_both_ways(handle: int) -> bool:
     return os.isatty(handle) or stat.S_ISSOCK(kind)
 
 
-def _write(handle: int, data: bytes) -> None:
+@contextlib.contextmanager
+def _woken_by_signals() -> Iterator[int]:
+    """A pipe that can be read after each signal, also after one that comes just before this process waits for what it reads. (Python
+    would call the function of such a signal only when something comes.)"""
+    wake, waker = os.pipe2(os.O_CLOEXEC | os.O_NONBLOCK)
+    with closing(wake), closing(waker):
+        before = signal.set_wakeup_fd(waker, warn_on_full_buffer=False)
+        try:
+            yield wake
+        finally:
+            signal.set_wakeup_fd(before)
+
+
+def _wait(reads: Iterable[int], writes: Iterable[int], wake: int) -> list[int]:
+    """Waits for one of these, or for a signal. Those that can be read."""
+    ready, _, _ = select.select([*reads, wake], list(writes), [])
+    if wake in ready:
+        os.read(wake, _BLOCK)
+    return [it for it in ready if it != wake]
+
+
+def _write(handle: int, data: bytes, wake: int) -> None:
     """Writes all bytes. (Somebody else who has this open file may have made it one for which nobody waits.)"""
     rest = memoryview(data)
     while rest:
         try:
             rest = rest[os.write(handle, rest) :]
         except BlockingIOError:
-            select.select([], [handle], [])
+            _wait([], [handle], wake)
 
 
-def _output_of(handle: int, outputs: list[_Output]) -> _Output:
+def _output_of(handle: int, outputs: list[_Output], wake: int) -> _Output:
     """One for both streams if they are the same file, so that their lines keep their order."""
     for output in outputs:
         if os.path.sameopenfile(output.handle, handle):
             return output
-    outputs.append(_Output(handle))
+    outputs.append(_Output(handle, wake))
     return outputs[-1]
 
 
-def _copy(child: Child, outputs: Sequence[_Output]) -> None:
+def _copy(child: Child, outputs: Sequence[_Output], wake: int) -> None:
     """Copies until the child ends."""
     waiting = {output.pipe: output for output in outputs}
     with closing(os.pidfd_open(child.pid)) as end:
-        while end not in (ready := select.select([*waiting, end], [], [])[0]):
+        while end not in (ready := _wait([*waiting, end], [], wake)):
             for handle in ready:
                 if not waiting[handle].copy():
                     del waiting[handle]

@@ -4,7 +4,8 @@ is in HERE-SYSTEM.2.bundle and so on.
 
 All of them stay there: a bundle that is read twice changes nothing, and what the last one brought is said in the
 next. PROGRAM may seal them: `PROGRAM seal SYSTEM` and `PROGRAM open SYSTEM` are filters. What `open` prints is used
-only if it ends with status 0.
+only if it ends with status 0. A small file may have been packed from very many bytes, so either is ended if it prints more
+than a bundle has, or takes longer than a call.
 
 Others may write the folder. A link that they put there could lead to any file of this site, so none is followed."""
 import contextlib
@@ -57,15 +58,20 @@ class Folder:
                 text = file.read(_MOST_SEALED)
             if not self._sealer:
                 return text
-            ended = self._session.processes.run(self._program("open"), text)
-            os.write(2, ended.errors)
-            if ended.status == 0:
+            ended = self._run("open", text, bundle.MOST)
+            if ended.wrote_too_much:
+                by = f"{by} printed more than {bundle.MOST} bytes, so this site"
+            elif ended.status == 0:
                 return ended.output
         self._session.say(f"{self._path}/{name}: {by} cannot open it")
         return None
 
-    def _program(self, task: str) -> Program:
-        return Program([*self._sealer, task, self._system], "", self._session.environment)
+    def _run(self, task: str, given: bytes, most: int) -> Ended:
+        limit = self._session.call_limit
+        program = Program([*self._sealer, task, self._system], "", self._session.environment, limit, most, ends_beyond=True)
+        ended = self._session.processes.run(program, given)
+        write_all(2, ended.errors)
+        return ended
 
     def put(self, name: str, text: bytes) -> None:
         """Makes a new file of these bytes, and gives it this name. What a killed call left is removed."""
@@ -77,8 +83,9 @@ class Folder:
     def _sealed(self, text: bytes) -> bytes:
         if not self._sealer:
             return text
-        ended = self._session.processes.run(self._program("seal"), text)
-        os.write(2, ended.errors)
+        ended = self._run("seal", text, _MOST_SEALED)
+        if ended.wrote_too_much:
+            raise OSError(0, f"{self._sealer[0]} printed more than {_MOST_SEALED} bytes")
         if ended.status:
             raise OSError(0, f"{self._sealer[0]} ended with status {ended.status}")
         return ended.output
