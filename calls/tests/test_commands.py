@@ -330,7 +330,7 @@ class Small(Folder):
         self.assertEqual((255, "..", "no-such-file"), (len(long), long[:2], long[-12:]))
 
     def test_addresses(self) -> None:
-        for what, words in ("exec rmail joe c!eve", ("rmail", "d!joe", "d!c!eve")), ("exec lp joe", ("lp", "joe")), ("send a b", ("a", "b")), (f"exec {COMMAND} {FILE} 0 exec rmail joe", (COMMAND, FILE, "0", "exec", "rmail", "d!joe")):
+        for what, words in ("exec rmail joe c!eve", ("rmail", "d!joe", "d!c!eve")), ("exec lp joe", ("lp", "joe")), ("send a b", ("a", "b")):
             self.assertEqual(words, move.addressed_on(Job.read(f"1 d ann N 2026-11-28 10:00:00 5 {what}"), "d"))
 
     def test_lines_without_retries(self) -> None:
@@ -338,10 +338,24 @@ class Small(Folder):
         self.assertEqual([2, 3, 6], sysfile.without_retries(text))
 
     def test_what_moves(self) -> None:
-        lines = [LINE, *(LINE.replace("rmail joe", f"{COMMAND} {FILE} {at} send a b") for at in (0, 1000)), LINE]
-        spool = StandIn([parcel(f"{number}{line[1:]}") for number, line in enumerate(lines, 1)])
-        for numbers, moved in (set(), [1, 2, 3, 4]), ({3}, [2, 3]), ({1, 9}, [9, 1]):
-            self.assertEqual(moved, move._chosen(site(self.folder, spool), "duke", numbers))
+        def piece(mark: str, at: int) -> str:
+            return LINE.replace(" 5 ", " 1000 ").replace("rmail joe", f"{COMMAND} {FILE.removesuffix('.m')}.{mark} {at} send a b")
+
+        lines = LINE, piece("m", 0), piece("m", 1000), piece("m", 2000), LINE, piece("n", 0), piece("n", 2000)
+        spool = StandIn([parcel(f"{number}{line[1:]}", bytes(int(line.split()[6]))) for number, line in enumerate(lines, 1)])
+        for numbers, moved, stays in (set(), [1, 2, 5], ["b, 1000 bytes have gone"]), ({3}, [2], []), ({1, 9}, [1], []), ({7}, [], ["b, 1000 bytes have gone"]):
+            wholes, parts = move._chosen(site(self.folder, spool), "duke", numbers)
+            self.assertEqual((moved, stays), ([it.job.number for it in wholes], [it.what.removeprefix("send a ") for it in parts]))
+            self.assertEqual([[2, 3, 4]] * (2 in moved), [[job.number for job in it.parts] for it in wholes if it.sum])
+        with self.assertRaisesRegex(Failure, "job 1 waits for duke, not for unc"):
+            move._chosen(site(self.folder, spool), "unc", {1, 99})
+
+    def test_what_is_no_move(self) -> None:
+        here = site(self.folder, StandIn())
+        for names, said in (("duke", "duke"), "need no move"), (("mysite", "duke"), "is this site, and one of its jobs may be delivered now"):
+            with self.assertRaisesRegex(Failure, said):
+                move._expect_neighbour(here, *names)
+
 
     def test_definitions(self) -> None:
         text = "system a\ntime Any\nsystem b.c\ntime Never\n"

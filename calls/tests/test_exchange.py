@@ -1,4 +1,5 @@
 """What becomes of a bundle, of refused jobs and of moves, with a spool of tables."""
+import contextlib
 import json
 import os
 import re
@@ -9,11 +10,12 @@ from unittest import mock
 from uuspool_calls import moves, works
 from uuspool_calls.errors import Failure, SpoolError
 from uuspool_calls.exchange import Neighbour, NoBundle, NotTaken, expect_size
-from uuspool_calls.jobs import Job
+from uuspool_calls.jobs import Job, Parcel
 from uuspool_calls.letters import Letter, Mailroom, NotSent, at_home
 from uuspool_calls.processes import Ended
 from uuspool_calls.refusals import Kept, Refuser, forget_excess, forget_old, forget_warnings, has_untold, look, tell, warn
 from uuspool_calls.spool import Refused, Settled, Unpacked
+from uuspool_calls.wholes import Whole
 
 from .standins import LINE, Folder, Mailer, StandIn, aged, parcel, site
 
@@ -389,6 +391,11 @@ class Refusing(Folder):
             Mailroom(self.site).send(Letter("x", "x", "x"), parcel().job, b"")
 
 
+def alone(its: Parcel) -> Whole:
+    """A job that isn't in pieces."""
+    return Whole(its.job, (its.job,))
+
+
 class Moving(Folder):
     def setUp(self) -> None:
         super().setUp()
@@ -399,7 +406,7 @@ class Moving(Folder):
         return os.listdir(f"{self.folder}/moves")
 
     def test_a_move(self) -> None:
-        moves.move(self.site, parcel(), "unc", ["rmail", "duke!joe"])
+        moves.move(self.site, alone(parcel()), "unc", ["rmail", "duke!joe"])
         self.assertEqual([("queue", "mysite!7!again", "unc", "rmail", "duke!joe"), ("kill", "7")], self.spool.asked)
         self.assertEqual(([], ["unc ann 101 moved from duke, where it was job 7"]), (self.notes(), self.site.log))
 
@@ -407,7 +414,7 @@ class Moving(Folder):
         for step in "queue", "kill":
             self.spool.fails = {step: SpoolError(3, "uuspool: spool: store")}
             with self.assertRaisesRegex(moves.HalfMoved, "it may wait for both duke and unc until the next call"):
-                moves.move(self.site, self.spool.parcels[7], "unc", ["rmail", "joe"])
+                moves.move(self.site, alone(self.spool.parcels[7]), "unc", ["rmail", "joe"])
             self.assertEqual(["7"], self.notes())
             with self.assertRaisesRegex(Failure, "job 7 is half moved: it may wait for both"):
                 moves.finish_all(self.site, "duke")
@@ -420,7 +427,7 @@ class Moving(Folder):
     def test_a_refused_move_leaves_the_job(self) -> None:
         self.spool.fails = {"queue": SpoolError(1, "refused NoSystem")}
         with self.assertRaisesRegex(moves.NotMoved, "refused NoSystem"):
-            moves.move(self.site, parcel(), "unc", ["rmail", "joe"])
+            moves.move(self.site, alone(parcel()), "unc", ["rmail", "joe"])
         self.assertEqual(([], True), (self.notes(), 7 in self.spool.parcels))
 
     def test_a_note_of_an_earlier_spool_moves_no_job(self) -> None:
@@ -433,8 +440,55 @@ class Moving(Folder):
         moves.finish_all(self.site)
         self.assertEqual(("queue", "mysite!7!again", "unc", "rmail", "duke!joe"), self.spool.asked[0])
 
+    def put_pieces(self) -> Whole:
+        """Mail in three pieces, between two others of the same words."""
+        lines = [LINE.replace("7", str(number), 1).replace(" 5 ", " 1000 ").replace("rmail", f"{FILE} {at} exec rmail") for number, at in ((7, 0), (9, 1000), (8, 2000))]
+        self.spool.parcels = {it.job.number: it for it in (parcel(LINE.replace("7", "6", 1)), *(parcel(line, bytes(1000)) for line in lines))}
+        [_, whole] = Whole.all_of(self.spool.waiting("duke"))
+        return whole
+
+    def left(self, system: str) -> list[str]:
+        return [it.what.removeprefix(f"exec {FILE} ") for it in self.spool.waiting(system)]
+
+    def test_a_stop_between_two_pieces_moves_them_all(self) -> None:
+        kill = self.spool.kill
+        for stops in range(4):
+            whole, kills = self.put_pieces(), iter(range(stops))
+
+            def kill_some(job: Job) -> None:
+                if next(kills, None) is None:
+                    raise KeyboardInterrupt
+                kill(job)
+
+            with mock.patch.object(self.spool, "kill", kill_some), contextlib.suppress(KeyboardInterrupt):
+                moves.move(self.site, whole, "unc", ["rmail", "duke!joe"])
+            self.assertEqual(["7"] * (stops < 3), self.notes())
+            moves.finish_all(self.site, "duke")
+            self.assertEqual(([], ["exec rmail joe"]), (self.notes(), self.left("duke")))
+            self.assertEqual({f"{at} exec rmail duke!joe" for at in (0, 1000, 2000)}, set(self.left("unc")))
+
+    def test_a_file_that_the_other_system_never_takes_stays_whole_or_half(self) -> None:
+        whole = self.put_pieces()
+        self.spool.fails = {"queue": SpoolError(1, "refused NoSystem")}
+        with self.assertRaisesRegex(moves.NotMoved, "refused NoSystem"):
+            moves.move(self.site, whole, "unc", ["rmail", "joe"])
+        self.assertEqual(([], 4), (self.notes(), len(self.left("duke"))))
+        queue, tried = self.spool.queue_again, []
+
+        def queue_one(job: Job, *rest: object) -> str:
+            tried.append(job)
+            if len(tried) > 1:
+                raise SpoolError(1, "refused NoSystem")
+            return queue(job, *rest)  # type: ignore[arg-type]
+
+        self.spool.fails = {}
+        with mock.patch.object(self.spool, "queue_again", queue_one), self.assertRaisesRegex(moves.HalfMoved, "both duke and unc"):
+            moves.move(self.site, whole, "unc", ["rmail", "joe"])
+        moves.finish_all(self.site, "unc")
+        self.assertEqual(([], ["exec rmail joe"], 3), (self.notes(), self.left("duke"), len(self.left("unc"))))
+
     def test_damaged_notes(self) -> None:
-        for text in "", "{", '{"job": 1}', "one line":
+        for text in "", "{", '{"job": 1}', '{"job": "w1", "system": "unc", "words": []}', "one line":
             self.put("moves/7", text)
             moves.finish_all(self.site)
         self.assertEqual([], self.spool.asked)

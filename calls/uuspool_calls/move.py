@@ -2,17 +2,21 @@
 gets a new number. What a stop leaves half done is finished before the next call of one of both says anything. A
 job in a bundle that is on its way may come to both.
 
+A file in pieces moves with all of them. If only a part of it waits, it stays, because the rest is at the neighbour, or comes
+later.
+
 Mail is addressed on, from the new neighbour to the old one, so it arrives at its address. With -k its addresses
 are kept, for a neighbour that now does what the old one did."""
 from collections.abc import Sequence
 
 from . import moves
 from .errors import LATER, USAGE, Failure, spool_needed
-from .jobs import Job
-from .pieces import name_of, whole_of
+from .jobs import MAIL, Job
+from .pieces import name_of
 from .session import Session
 from .site import Site, enter
 from .texts import is_name, is_number
+from .wholes import Listed, Whole
 
 _USAGE = "usage: uuspool-move [-k] FROM TO [NUMBER..]"
 _PATIENCE = 10  # seconds
@@ -28,42 +32,56 @@ def run(session: Session, words: Sequence[str]) -> int:
     if odd := [it for it in numbers if not is_number(it)]:
         raise Failure(USAGE, f"{odd[0]} isn't the number of a job")
     site = enter(session)
+    _expect_neighbour(site, origin, target)
     session.processes.catch_stops()
     with site.lock(f"calls/{origin}.lock") as lock:
         # (A call of this neighbour that is under way may bring it such a job.)
         if not lock.wait(_PATIENCE, session.processes.pause):
             raise Failure(LATER, f"{origin} is being called by another process")
         moves.finish_all(site)
-        for chosen in _chosen(site, origin, set(map(int, numbers))):
-            _move(site, chosen, origin, target, keeps)
-    return 0
+        chosen, parts = _chosen(site, origin, set(map(int, numbers)))
+        for whole in chosen:
+            _move(site, whole, target, whole.job.words if keeps else addressed_on(whole.job, origin))
+    for part in parts:
+        session.say(f"job {part.job.number} stays for {origin}, because a file moves only while all of its pieces wait: {part.what}")
+    return LATER if parts else 0
 
 
-def _chosen(site: Site, origin: str, numbers: set[int]) -> list[int]:
-    """The jobs to move: all that wait, or those with these numbers and the other pieces of their files."""
+def _expect_neighbour(site: Site, origin: str, target: str) -> None:
+    if origin == target:
+        raise Failure(USAGE, f"jobs that wait for {origin} need no move to {target}")
+    if origin == site.own:
+        raise Failure(USAGE, f"{origin} is this site, and one of its jobs may be delivered now: refuse it by uuspool-refuse, and queue it again")
+
+
+def _chosen(site: Site, origin: str, numbers: set[int]) -> tuple[list[Whole], list[Listed]]:
+    """What is to move: all that waits, or what these numbers are of, with files as wholes. And the files of which a part waits."""
     with spool_needed(f"the spool cannot be asked what waits for {origin}"):
         waiting = site.spool.waiting(origin)
-    names = {name_of(job) for job in waiting if job.number in numbers}
-    others = numbers - {job.number for job in waiting}  # (for another system, or gone)
-    return [*sorted(others), *(job.number for job in waiting if not numbers or name_of(job) in names)]
+    _expect_nowhere_else(site, origin, numbers - {job.number for job in waiting})
+    names = {name_of(job) for job in waiting if not numbers or job.number in numbers}
+    chosen = [job for job in waiting if name_of(job) in names]
+    wholes = list(Whole.all_of(chosen))
+    moving = {part.number for whole in wholes for part in whole.parts}
+    return wholes, Listed.all_of([job for job in chosen if job.number not in moving])
 
 
-def _move(site: Site, number: int, origin: str, target: str, keeps: bool) -> None:
-    parcel = site.spool.show(number)
-    if parcel is None:
-        return
-    if parcel.job.system != origin:
-        raise Failure(USAGE, f"job {number} waits for {parcel.job.system}, not for {origin}")
+def _expect_nowhere_else(site: Site, origin: str, numbers: set[int]) -> None:
+    """These jobs are gone, and don't wait for another system."""
+    for number in sorted(numbers):
+        if parcel := site.spool.show(number):
+            raise Failure(USAGE, f"job {number} waits for {parcel.job.system}, not for {origin}")
+
+
+def _move(site: Site, whole: Whole, target: str, words: Sequence[str]) -> None:
     try:
-        moves.move(site, parcel, target, parcel.job.words if keeps else addressed_on(parcel.job, origin))
+        moves.move(site, whole, target, words)
     except (moves.NotMoved, moves.HalfMoved) as error:
-        raise Failure(LATER, f"job {number} cannot be moved: {error}") from None
+        raise Failure(LATER, f"job {whole.job.number} cannot be moved: {error}") from None
 
 
 def addressed_on(job: Job, origin: str) -> tuple[str, ...]:
     """The words of mail with the old neighbour before each address. Other words stay."""
-    whole = whole_of(job)
-    if whole.kind != "exec" or whole.words[0] != "rmail" or len(whole.words) < 2:
+    if job.kind != "exec" or job.words[0] != MAIL:
         return job.words
-    before = len(job.words) - len(whole.words) + 1  # (words of a piece stand before those of the whole)
-    return (*job.words[:before], *(f"{origin}!{address}" for address in whole.words[1:]))
+    return (MAIL, *(f"{origin}!{address}" for address in job.words[1:]))

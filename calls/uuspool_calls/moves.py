@@ -1,14 +1,16 @@
 """Moves of jobs from one system to another. A stopped one leaves a note, and is finished before a bundle
-or a letter says anything about such a job."""
+or a letter says anything about such a job. All pieces of a file are one move, with one note."""
 import os
 from collections.abc import Sequence
 
 from . import files
 from .errors import LATER, Failure, SpoolError
-from .jobs import Job, Parcel
+from .jobs import Job
+from .pieces import Piece, name_of, whole_of
 from .refusals import NotRemoved, requeue
 from .site import Site
 from .values import NamedTuple
+from .wholes import Whole
 
 
 class NotMoved(Exception):
@@ -20,7 +22,7 @@ class HalfMoved(Exception):
 
 
 class Note(NamedTuple):
-    """That a job is to move: what it says, to which system, and with which words."""
+    """That a job, or a file in pieces, is to move: what it says, to which system, and with which words of the whole."""
 
     job: str
     system: str
@@ -31,63 +33,84 @@ class Note(NamedTuple):
         """The note in a file."""
         read = files.read_record(path)
         try:
-            return Note(str(read["job"]), str(read["system"]), tuple(map(str, read["words"])))
+            note = Note(str(read["job"]), str(read["system"]), tuple(map(str, read["words"])))
         except (KeyError, TypeError):
             return None
+        return note if len(note.job.split(" ")) > 2 else None
+
+    @property
+    def origin(self) -> str:
+        """From which system."""
+        return self.job.split(" ")[1]
+
+    def words_of(self, job: Job) -> Sequence[str]:
+        """The words that a job gets."""
+        piece = Piece.of(job)
+        return piece._replace(words=(piece.words[0], *self.words)).line() if piece else self.words
 
 
 def _named(site: Site, job: Job) -> str:
-    """What stays the same of a job while it waits. A new spool, which gives its numbers again, has another
-    word."""
-    return f"{site.word()} {job.system} {job.user} {job.size} {job.what}"
+    """What stays the same of a job while it waits, and is the same of all pieces of a file. A new spool, which gives its numbers
+    again, has another word."""
+    what = name_of(job) if Piece.of(job) else f"{job.user} {job.size} {job.what}"
+    return f"{site.word()} {job.system} {what}"
 
 
-def move(site: Site, parcel: Parcel, system: str, words: Sequence[str]) -> None:
-    """Moves a job to a system, with these words."""
-    folder = f"{site.folder}/moves"
+def move(site: Site, whole: Whole, system: str, words: Sequence[str]) -> None:
+    """Moves a job, or all pieces of a file, to a system. The whole gets these words."""
+    folder, number = f"{site.folder}/moves", whole.job.number
+    note = Note(_named(site, whole.parts[0]), system, tuple(words))
     try:
         os.makedirs(folder, exist_ok=True)
         files.sync_folder(site.folder)
-        note = Note(_named(site, parcel.job), system, tuple(words))
-        files.write_record(f"{folder}/{parcel.job.number}", note._asdict())
+        files.write_record(f"{folder}/{number}", note._asdict())
     except OSError as error:
         raise NotMoved(f"it cannot be noted below {folder}: {error.strerror}") from None
-    _finish(site, parcel, note)
+    _finish(site, number, note, whole.parts)
 
 
-def _finish(site: Site, parcel: Parcel, note: Note) -> None:
-    job, path = parcel.job, f"{site.folder}/moves/{parcel.job.number}"
-    try:
-        queued = requeue(site, parcel, note.system, note.words)
-    except NotRemoved as error:
-        raise _half(job, note, str(error)) from None
-    except SpoolError as error:
-        if not error.is_final:
-            raise _half(job, note, str(error)) from None
-        files.remove(path)
-        raise NotMoved(str(error)) from None
-    site.log.note(note.system, job.user, queued.split()[1], "moved", f"from {job.system}, where it was job {job.number}")
-    files.remove(path)
+def _left(site: Site, number: int, note: Note) -> list[Job]:
+    """What a note names and still waits for its system: the job of this number, or the pieces of the file."""
+    waiting = site.spool.waiting(note.origin)
+    return [job for job in waiting if _named(site, job) == note.job and (job.number == number or Piece.of(job))]
 
 
-def _half(job: Job, note: Note, said: str) -> HalfMoved:
-    return HalfMoved(f"it may wait for both {job.system} and {note.system} until the next call of one of them: {said}")
+def _finish(site: Site, number: int, note: Note, left: Sequence[Job]) -> None:
+    has_begun = not left or sum(job.size for job in left) < whole_of(left[0]).size
+    for job in left:
+        try:
+            _move_one(site, job, note)
+        except NotRemoved as error:
+            raise _half(note, str(error)) from None
+        except SpoolError as error:
+            if has_begun or not error.is_final:
+                raise _half(note, str(error)) from None
+            files.remove(f"{site.folder}/moves/{number}")
+            raise NotMoved(str(error)) from None
+        has_begun = True
+    files.remove(f"{site.folder}/moves/{number}")
+
+
+def _move_one(site: Site, job: Job, note: Note) -> None:
+    parcel = site.spool.show(job.number)
+    if parcel is not None:
+        queued = requeue(site, parcel, note.system, note.words_of(job))
+        site.log.note(note.system, job.user, queued.split()[1], "moved", f"from {job.system}, where it was job {job.number}")
+
+
+def _half(note: Note, said: str) -> HalfMoved:
+    return HalfMoved(f"it may wait for both {note.origin} and {note.system} until the next call of one of them: {said}")
 
 
 def finish_all(site: Site, neighbour: str = "") -> None:
     """Finishes the moves from and to a neighbour, or all of them."""
     for name in files.names_in(f"{site.folder}/moves"):
-        path = f"{site.folder}/moves/{name}"
-        note = Note.read(path) if name.isdecimal() else None
-        if note is None:
+        note = Note.read(f"{site.folder}/moves/{name}") if name.isdecimal() else None
+        if note is None or neighbour not in ("", note.system, note.origin):
             continue
-        parcel = site.spool.show(int(name))
-        if parcel is None or _named(site, parcel.job) != note.job:
-            files.remove(path)
-        elif neighbour in ("", note.system, parcel.job.system):
-            try:
-                _finish(site, parcel, note)
-            except NotMoved:
-                continue
-            except HalfMoved as error:
-                raise Failure(LATER, f"job {name} is half moved: {error}") from None
+        try:
+            _finish(site, int(name), note, _left(site, int(name), note))
+        except NotMoved:
+            continue
+        except (HalfMoved, SpoolError) as error:
+            raise Failure(LATER, f"job {name} is half moved: {error}") from None
