@@ -1,4 +1,5 @@
 """Files in pieces: how they are named, kept, delivered, refused and queued."""
+import contextlib
 import errno
 import hashlib
 import json
@@ -71,7 +72,8 @@ class Arrivals(Folder):
         self.site = site(self.folder, StandIn(), **places, UUSPOOL_COMMAND_LIMIT="5")
         self.session = self.site.session
         self.session.processes = type(self.session.processes).__mro__[1]()
-        self.delivery = Delivery(self.session, "mysite", (self.folder, f"{self.folder}/refused"), self.session.environment, self.fail, ["mysite", "b"].__contains__)
+        self.waiting: dict[int, Job] = {}  # as the spool has them
+        self.delivery = Delivery(self.session, "mysite", (self.folder, f"{self.folder}/refused"), self.session.environment, self.fail, ["mysite", "b"].__contains__, self.waiting.get)
         self.number = 0
 
     def job(self, words: tuple[str, ...], content: int, user: str = "a!ann") -> Delivered:
@@ -214,6 +216,20 @@ class Coming(Arrivals):
         os.remove(f"{self.folder}/busy")
         self.number -= 1
         self.assertTrue(self.take(DATA, 0, "exec", "rmail", "joe").is_last)
+
+    def test_a_whole_has_one_name_whatever_piece_brings_it_to_its_end(self) -> None:
+        self.put("busy")
+        mail = "exec", "rmail", "joe"
+        self.take(DATA, 0, *mail)
+        self.take(DATA, 1000, *mail)
+        for number, at in (3, 2000), (1, 0):
+            self.number = number - 1
+            self.waiting[3] = Job.read(f"3 mysite a!ann N 2026-11-28 10:00:00 560 exec {' '.join(words_of(DATA, 2000, *mail))}")
+            self.assertRaisesRegex(Delay, "failed with status 75", self.take, DATA, at, *mail)
+        os.remove(f"{self.folder}/busy")
+        self.waiting[3] = Job.read(LINE)  # (a job of another file has its number)
+        self.take(DATA, 0, *mail)
+        self.assertEqual([3, 3, 2], [int(it.split(b"!")[1]) for it in self.bytes_of("ran").splitlines()])
 
     def test_tries_and_users_dont_mix(self) -> None:
         self.take(DATA, 0)
@@ -477,6 +493,43 @@ class HandedOn(Refused):
             self.assertEqual([1], deliver.due(self.site, [self.spool.parcels[1].job], clock.now()))
         asked = [it for it in self.spool.asked if it[0] == "exec"]
         self.assertEqual((4, 1), (len(asked), len({it[5] for it in asked})))
+
+
+    def test_a_kill_behind_the_last_piece_and_then_another_piece(self) -> None:
+        """Mail that came in two pieces, neither of which was noted as done, is queued again under the same mark or key."""
+        self.put("etc/forward", "a unc\n")
+        for size, is_one_job in (1_100_000, False), (10_000, True):
+            data, asked = b"Subject: x\n\n" + bytes(size), []
+            length = size // 2 + 20
+            file = f"{hashlib.sha256(data).hexdigest()}.{len(data)}.{length}.m"
+            for number, at in (1, 0), (2, length), (1, 0), (2, length):
+                part, words = data[at : at + length], f"{COMMAND} {file} {at} exec rmail unc!joe"
+                self.spool.parcels[number] = parcel(f"{number} mysite a!ann B 2026-11-28 10:0{number}:00 {len(part)} exec {words}", part)
+            for number in 1, 2, 1, 2:
+                self.spool.asked = []
+                with mock.patch.object(pieces.File, "note_came", side_effect=Stopped), contextlib.suppress(Stopped):
+                    self.deliverer.deliver(number)
+                asked += [it[2] if is_one_job else it[5] for it in self.spool.asked if it[0] == "exec"]
+            self.assertEqual(({"--once=mysite!2!onward"}, 3) if is_one_job else (1, 6), (set(asked) if is_one_job else len(set(asked)), len(asked)))
+            shutil.rmtree(f"{self.folder}/pieces")
+
+    def test_a_failed_delivery_keeps_what_it_noted_of_its_pieces(self) -> None:
+        self.put("etc/forward", "a unc\n")
+        text = b"Subject: x\n\n" + bytes((1 << 20) - 20)
+        self.spool.parcels[1] = parcel(f"1 mysite a!ann B 2026-11-28 10:00:00 {len(text)} exec rmail unc!joe", text)
+        ask, asked = self.spool.ask_once, 0
+
+        def fail_last(*words: str, given: bytes | int = b"") -> bytes:
+            nonlocal asked
+            asked += 1
+            if asked == 2:
+                raise SpoolError(3, "uuspool: spool: store")
+            return ask(*words, given=given)
+
+        with mock.patch.object(self.spool, "ask_once", fail_last):
+            self.assertEqual(0, self.deliverer.deliver(1))
+        record = records.Tries.read(f"{self.folder}/deliver", "w1", self.spool.parcels[1].job, 0)
+        self.assertEqual((2, True, 1), (asked, record.all_but_one, record.failed))
 
 
 class Older(Arrivals):

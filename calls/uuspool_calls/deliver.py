@@ -201,7 +201,7 @@ class Deliverer:
         self._site, self._own = site, site.own
         self._folder = f"{site.folder}/deliver"
         folders, environment = (site.folder, f"{site.folder}/refused"), {**site.environment, "UUSPOOL_HERE": self._own}
-        self._delivery = Delivery(site.session, self._own, folders, environment, self._hand_on, self._is_system)
+        self._delivery = Delivery(site.session, self._own, folders, environment, self._hand_on, self._is_system, self._find)
 
     def run(self, session: Session, words: Sequence[str]) -> int:
         """Tries the jobs with these numbers."""
@@ -229,7 +229,7 @@ class Deliverer:
         except Refusal as refusal:
             return self.give_up(parcel, str(refusal))
         except Delay as delay:
-            return self._fail(parcel, tries, str(delay), now)
+            return self._fail(parcel, str(delay), now)
         return self._finish(parcel.job, outcome, tries, now)
 
     def _delivered(self, job: Job, content: int) -> Delivered:
@@ -241,9 +241,7 @@ class Deliverer:
         with self._site.lock(f"deliver/{number}{LOCK}") as lock:
             parcel = self._site.spool.show(number) if lock.take() and lock.is_current() else None
             if parcel:
-                now = clock.now()
-                tries = records.Tries.read(self._folder, self._site.word(), parcel.job, now)
-                self._fail(parcel, tries, f"its delivery at {self._own} was killed by signal {signal}", now)
+                self._fail(parcel, f"its delivery at {self._own} was killed by signal {signal}", clock.now())
 
     def _hand_over(self, delivered: Delivered, job: Job) -> Outcome:
         """Delivers it."""
@@ -282,6 +280,10 @@ class Deliverer:
             return bool(self._site.spool.systems(name))
         except SpoolError as error:
             raise Delay(f"it cannot be asked at {self._own} whether {name} is a system: {error}") from None
+
+    def _find(self, number: int) -> Job | None:
+        parcel = self._site.spool.show(number)
+        return parcel.job if parcel and parcel.job.system == self._own else None
 
     def _hand_on(self, system: str, job: Delivered) -> None:
         self._queue(system, job, "onward")
@@ -330,7 +332,8 @@ class Deliverer:
             records.forget(self._folder, parcel.job.number)
         return 0
 
-    def _fail(self, parcel: Parcel, tries: records.Tries, why: str, now: int) -> int:
+    def _fail(self, parcel: Parcel, why: str, now: int) -> int:
+        tries = records.Tries.read(self._folder, self._site.word(), parcel.job, now)  # (with what its delivery noted)
         if tries.is_old(now):
             return self.give_up(parcel, f"it could not be delivered for {records.DAYS} days: {why}")
         return self._try_later(parcel.job, tries.after_failure(why, now))

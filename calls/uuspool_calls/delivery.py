@@ -5,7 +5,7 @@ from functools import partial
 
 from . import commands, envelope, forward, public, works
 from .errors import Delay, Refusal
-from .jobs import MAIL, Delivered, Wishes
+from .jobs import MAIL, Delivered, Job, Wishes
 from .pieces import COMMAND, File, Piece, Pieces, cannot_be_kept
 from .processes import Program
 from .session import Session
@@ -27,16 +27,17 @@ class Outcome(NamedTuple):
 
 HandOn = Callable[[str, Delivered], None]  # queues a command for a system
 IsSystem = Callable[[str], bool]  # whether a name is that of a system
+Find = Callable[[int], Job | None]  # the job of a number, if it waits
 
 
 class Delivery:
     """Delivers jobs at a site, from the folder in which it works. What is refused of files that come in pieces goes to
     another one. Mail that was too large for the spool to hand on is handed on here."""
 
-    def __init__(self, session: Session, own: str, folders: tuple[str, str], environment: Mapping[str, str], hand_on: HandOn, is_system: IsSystem) -> None:
+    def __init__(self, session: Session, own: str, folders: tuple[str, str], environment: Mapping[str, str], hand_on: HandOn, is_system: IsSystem, find: Find) -> None:
         self._session, self._own, self._environment = session, own, environment
         self._folder, self._refused = folders
-        self._hand_on, self._is_system = hand_on, is_system
+        self._hand_on, self._is_system, self._find = hand_on, is_system, find
         self._limit = session.command_limit
 
     def deliver(self, job: Delivered) -> Outcome:
@@ -118,8 +119,7 @@ class Delivery:
             if file.is_refused or not file.is_whole():
                 return Outcome(f"{piece.place} of {whole.what}", "refused" if file.is_refused else "kept")
             with file.opened() as content:
-                self._prepare_note(file, job, whole)
-                outcome = self.deliver(whole._replace(content=content))
+                outcome = self.deliver(whole._replace(content=content, name=self._begin(file, job, whole)))
             try:
                 file.note_came(job.name, outcome.what)
             except OSError as error:
@@ -127,12 +127,21 @@ class Delivery:
                 self._session.say(f"{whole.what} is delivered, and that cannot be noted in {file.folder}: {error.strerror}")
             return outcome._replace(is_last=True)
 
-    def _prepare_note(self, file: File, job: Delivered, whole: Delivered) -> None:
-        """A command doesn't begin if there is no room for the note that it ended, or it would run again."""
+    def _begin(self, file: File, job: Delivered, whole: Delivered) -> str:
+        """The name with which the whole is delivered: that of the job which brought the last piece. If a stop has another piece bring it
+        to its end, it keeps that name while that job waits, because by the name nothing is queued or done twice.
+
+        A command doesn't begin if there is no room for the note that it ended, or it would run again."""
+        begun = file.begun_with()
+        other = self._find(int(begun.split("!")[1])) if begun else None
+        its = Piece.of(other) if other else None
+        if other and its and its.name(other.user) == _piece(job).name(job.user):
+            return begun
         try:
             file.prepare_note(job.name, whole.what)
         except OSError as error:
             raise cannot_be_kept(_piece(job), self._folder, error) from None
+        return job.name
 
     def set_aside(self, job: Delivered, why: str) -> bool:
         """Refuses the file of which a job is a piece, as far as it came. Whether it is one."""

@@ -142,9 +142,9 @@ class About(NamedTuple):
     why: str = ""  # it is refused
 
     @staticmethod
-    def read(folder: str) -> "About | None":
+    def read(folder: str, name: str = _ABOUT) -> "About | None":
         """What a folder says."""
-        kept = files.read_record(f"{folder}/{_ABOUT}")
+        kept = files.read_record(f"{folder}/{name}")
         try:
             if "to" in kept:
                 return _adopted(folder, str(kept["user"]), str(kept["to"]), int(kept["size"]))
@@ -239,8 +239,13 @@ class File:
                 raise Refusal(f"the pieces of {self.about.piece.words[-1]} are not those of one file, which changed while it was queued")
             yield whole
 
+    def begun_with(self) -> str:
+        """The name of the job with which its delivery was begun before, or nothing."""
+        about = About.read(self.folder, _CAME)
+        return about.came if about else ""
+
     def prepare_note(self, job: str, what: str) -> None:
-        """Writes what `note_came` needs if there is no room for more."""
+        """Writes with which job its delivery begins, and what `note_came` needs if there is no room for more."""
         self.about._replace(came=job, what=what).write(self.folder, _CAME)
 
     def note_came(self, job: str, what: str) -> None:
