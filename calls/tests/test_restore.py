@@ -133,6 +133,18 @@ class Log(Folder):
             said = self.said()
             self.assertEqual([wanted, None, None], [said.lost.get(number) for number in (1, 2, 3)])
 
+    def test_a_piece_that_is_kept_says_nothing_of_its_file(self) -> None:
+        """1 and 2 brought pieces of a file. 1 had it handed on, and after a restoration 2 did."""
+        first = line(13, 11, "exec -gN --once=mysite!1!onward -- phs rmail joe") + line(14, 1, "done mysite") + line(14, 2, "done mysite")
+        second = about("restored", "0a", "w") + line(15, 1, "done mysite") + line(16, 12, "exec -gN --once=mysite!2!onward -- phs rmail joe") + line(16, 2, "done mysite")
+        for text, handed_on, done in (first, {1}, set()), (first + second, {1, 2}, set()), (first + second + line(17, 12, "settle phs"), {1, 2}, {2}), (first + line(14, 11, "settle phs") + second, {1, 2}, {1}):
+            self.put("log", HERE + text)
+            said = logged.read(f"{self.folder}/log", "", "w", "0a", [1, 2, 3], pieces=[1, 2])
+            self.assertEqual((handed_on, done), (said.handed_on, handed_on & said.gone.keys() - said.lost.keys()))
+        self.put("log", HERE + line(13, 1, "kill") + line(14, 3, "done mysite"))
+        said = logged.read(f"{self.folder}/log", "", "w", "0a", [1, 2, 3], pieces=[1, 2])
+        self.assertEqual(({1, 3}, {}), (said.gone.keys(), said.lost))
+
     def test_lines_about_other_spools_and_of_before(self) -> None:
         killed = {number: line(2, number, f"kill {number}") for number in range(1, 10)}
         copied, others, restored = about("copied", "0b", "w"), about("copied", "0c", "v"), about("restored", "0a", "w")

@@ -30,14 +30,15 @@ class Target:
     def __init__(self, name: str, parent: int | None = None) -> None:
         os.mkdir(name, 0o700, dir_fd=parent)
         self.handle = os.open(name, _FOLDER, dir_fd=parent)
-        self._parts: list[Target] = []
+        self._parts: dict[str, Target] = {}
         self.like: os.stat_result | None = None
 
     def folder(self, name: str, like: os.stat_result | None = None) -> "Target":
-        """A new folder in it."""
-        self._parts.append(Target(name, self.handle))
-        self._parts[-1].like = like
-        return self._parts[-1]
+        """A folder in it, which is new, unless this made it before."""
+        if name not in self._parts:
+            self._parts[name] = Target(name, self.handle)
+            self._parts[name].like = like
+        return self._parts[name]
 
     def put(self, name: str, source: int) -> None:
         """A new file with the bytes, the mode and the time of an open one, and its owner if this is root. None is left
@@ -59,7 +60,7 @@ class Target:
 
     def sync(self) -> None:
         """Writes everything to the disk."""
-        for part in self._parts:
+        for part in self._parts.values():
             part.sync()
         for name in os.listdir(self.handle):
             if stat.S_ISREG(os.stat(name, dir_fd=self.handle, follow_symlinks=False).st_mode):
@@ -77,7 +78,7 @@ class Target:
 
     def close(self) -> None:
         """Closes the folders."""
-        for part in self._parts:
+        for part in self._parts.values():
             part.close()
         os.close(self.handle)
 
@@ -113,16 +114,16 @@ def _make_like(handle: int, seen: os.stat_result) -> None:
 class Copier:
     """Copies files as they are at one moment: those that may be opened are opened then, and their bytes are copied by
     `finish`. This is for files that are replaced whole, and never changed. For root the owner of their folder opens them,
-    if one is given."""
+    if one is given. Folders with some paths aren't copied."""
 
-    def __init__(self, owners: Collection[int] = (), owner: str = "") -> None:
+    def __init__(self, owners: Collection[int] = (), owner: str = "", without: Collection[str] = ()) -> None:
         import resource  # (one command needs it)
 
         most = resource.getrlimit(resource.RLIMIT_NOFILE)[1]
         with contextlib.suppress(OSError, ValueError):
             resource.setrlimit(resource.RLIMIT_NOFILE, (most, most))
         self._most = resource.getrlimit(resource.RLIMIT_NOFILE)[0] - _SPARE
-        self._owners, self._owner = owners, owner
+        self._owners, self._owner, self._without = owners, owner, without
         self._opened: list[tuple[Target, str, int, str]] = []
         self.left_out: list[str] = []  # what isn't copied, and why
 
@@ -156,13 +157,13 @@ class Copier:
                     self.left_out.append(f"{path}/{name}: is a folder")
                 elif stat.S_ISDIR(seen.st_mode) and path.count("/") >= _DEEPEST:
                     self.left_out.append(f"{path}/{name}: is in too many folders")
-                elif stat.S_ISDIR(seen.st_mode):
+                elif stat.S_ISDIR(seen.st_mode) and f"{path}/{name}" not in self._without:
                     self._enter(name, folder, f"{path}/{name}", target.folder(name, seen), wanted)
                 elif stat.S_ISLNK(seen.st_mode):
                     os.symlink(os.readlink(name, dir_fd=folder), name, dir_fd=target.handle)
                     if os.geteuid() == 0:
                         os.chown(name, seen.st_uid, seen.st_gid, dir_fd=target.handle, follow_symlinks=False)
-                elif wanted is None or wanted(name):
+                elif not stat.S_ISDIR(seen.st_mode) and (wanted is None or wanted(name)):
                     self._open(name, folder, target, name, f"{path}/{name}")
 
     def _enter(self, name: str, folder: int | None, path: str, target: Target, wanted: Callable[[str], bool] | None) -> None:

@@ -53,16 +53,23 @@ class Said(NamedTuple):
     lost: dict[int, Anew]  # those of them that wait again, because others stood for them, none of which is done: the last one
     others: set[int]  # jobs that stood for them
     delivered: set[int]  # jobs that were delivered here, also the pieces with which files were
+    handed_on: set[int]  # those of them that others stood for
     greatest: int  # number of a job of any spool, or 0
     has_mark: bool  # whether it has a line of the copy. Otherwise it says nothing of its jobs
     faults: list[str]  # what couldn't be read, and why
 
+    def without(self, gone: Collection[int] = (), lost: Collection[int] = ()) -> "Said":
+        """The same, but that these jobs aren't gone, and those not lost."""
+        its = {number: line for number, line in self.gone.items() if number not in gone}
+        return self._replace(gone=its, lost={number: anew for number, anew in self.lost.items() if number not in lost})
 
-def read(path: str, owner: str, word: str, mark: str, jobs: Iterable[int], times: Iterable[str] = ()) -> Said:
+
+def read(path: str, owner: str, word: str, mark: str, jobs: Iterable[int], times: Iterable[str] = (), pieces: Iterable[int] = ()) -> Said:
     """What the log at a path says of jobs of the spool with this word since a copy of it was made or put back, whose lines have
-    this mark. It was put back at these times. For root the owner of the spool opens the files, who may put links there."""
+    this mark. It was put back at these times. Some of the jobs brought pieces of files here. For root the owner of the spool opens the
+    files, who may put links there."""
     faults: list[str] = []
-    reading = _Reading(word, mark, frozenset(jobs), frozenset(it.encode() for it in times))
+    reading = _Reading(word, mark, frozenset(jobs), frozenset(it.encode() for it in times), frozenset(pieces))
     for words in _lines(path, owner, faults):
         reading.take(words)
     return reading.said(faults)
@@ -71,10 +78,12 @@ def read(path: str, owner: str, word: str, mark: str, jobs: Iterable[int], times
 class _Reading:
     """What the lines so far say. A line is about the spool if the last copy that was made or put back before it is the spool's, and
     no other spool was made since. Those before the first line of the copy only say which jobs stand for each other. Only jobs of the copy
-    are followed, and those that stand for them or for the same ones, which have greater numbers."""
+    are followed, and those that stand for them or for the same ones, which have greater numbers. A job that brought a piece of a file is
+    gone once the piece is kept, so that says nothing of the file."""
 
-    def __init__(self, word: str, mark: str, jobs: frozenset[int], times: frozenset[bytes]) -> None:
+    def __init__(self, word: str, mark: str, jobs: frozenset[int], times: frozenset[bytes], kept: frozenset[int]) -> None:
         self._word, self._mark, self._jobs, self._followed, self._times = word.encode(), mark.encode(), jobs, set(jobs), times
+        self._kept = kept
         self._gone: dict[int, Line] = {}
         self._done: set[int] = set()  # those for which none stood when they went
         self._anew: dict[int, Anew] = {}  # what stood for each, the last time
@@ -135,7 +144,7 @@ class _Reading:
         elif words[6] in _GOES:
             if self._is_followed(number):
                 self._gone[number] = Line(b" ".join(words[:2]).decode(errors="replace"), words[6].decode())
-                self._done |= {number} - self._open
+                self._done |= {number} - self._open - (self._kept if words[6] == b"done" else set())
             self._open.discard(number)
 
     def _is_followed(self, number: int) -> bool:
@@ -153,7 +162,8 @@ class _Reading:
             kept[self._first(number)] = number
         gone = {it: done.get(self._first(it)) or self._gone[it] for it in self._jobs if it in self._gone or self._first(it) in done}
         lost = {it: self._last(it, done) for it in gone if self._first(it) not in done and kept[self._first(it)] == it}
-        return Said(gone, lost, self._others(), self._delivered, self._greatest, self._has_mark, faults)
+        handed_on = self._jobs & (self._anew.keys() | self._pieces.keys())
+        return Said(gone, lost, self._others(), self._delivered, set(handed_on), self._greatest, self._has_mark, faults)
 
     def _others(self) -> set[int]:
         """The jobs that stood for those of the copy, and aren't there."""

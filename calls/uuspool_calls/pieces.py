@@ -116,6 +116,12 @@ def name_of(job: Job) -> str:
     return piece.name(f"{job.system} {job.user}") if piece else str(job.number)
 
 
+def folder_of(job: Job) -> str:
+    """Where what came of the file of a piece is kept, below the folder of all senders."""
+    piece = Piece.of(job)
+    return f"{job.sender or job.system}/{piece.name(job.user)}" if piece else ""
+
+
 def whole_of(job: Job) -> Job:
     """A job, or that of the whole file if it is a piece."""
     piece = Piece.of(job)

@@ -7,6 +7,7 @@ there, waits again. Then both folders are exchanged in one step. So whenever the
 two spools, whole.
 
 root or the spool's user runs it. For root the owner of the spool's folder opens what is in it, and runs the program there."""
+import collections
 import contextlib
 import os
 import stat
@@ -17,7 +18,7 @@ from .copies import Copier, Target
 from .errors import LATER, NOT_SET_UP, USAGE, Failure, Stopped
 from .jobs import Job, Parcel
 from .journal import Journal
-from .pieces import Piece, name_of
+from .pieces import Piece, folder_of, name_of
 from .place import ASIDE, INNER, Place
 from .processes import Ended, Program
 from .session import Session, acting_as, user_name
@@ -97,6 +98,7 @@ class Restoration:
         self._other = Known(0, [])  # of the spool that is there, if it isn't the copy's
         self._is_same = False  # whether the spool that is there has the word of the copy's
         self._times: list[restored.Time] = []  # when the copy's spool was put back before
+        self._again: set[str] = set()  # the folders below `pieces` of files that are to be handed on again
         self._why = ""  # the program failed
 
     def make(self, least: int) -> None:
@@ -163,16 +165,28 @@ class Restoration:
 
     def _said(self, jobs: Sequence[Job]) -> logged.Said:
         """What the log says of the jobs of the copy. A job that brought a piece of a file here isn't done, unless the file was
-        delivered: the piece may be lost. (One that is there may come again.)"""
-        said = self._read({job.number for job in jobs})
-        came = {name_of(job) for job in jobs if job.number in said.delivered}
-        pieces = {job.number for job in jobs if job.system == self._settings.name and Piece.of(job) and name_of(job) not in came}
-        gone = {number: line for number, line in said.gone.items() if number not in pieces or line.how != "done"}
-        return said._replace(gone=gone)
+        delivered: the piece may be lost. (One that is there may come again.) If it was handed on, and that is lost, all of its pieces
+        wait again."""
+        parts: dict[str, list[Job]] = collections.defaultdict(list)
+        for job in jobs:
+            if job.system == self._settings.name and Piece.of(job):
+                parts[name_of(job)].append(job)
+        said = self._read({job.number for job in jobs}, {job.number for its in parts.values() for job in its})
+        waiting: set[int] = set()
+        done: set[int] = set()
+        for its in parts.values():
+            numbers = {job.number for job in its}
+            handed_on = numbers & said.handed_on
+            if handed_on & said.gone.keys() - said.lost.keys() if handed_on else numbers & said.delivered:
+                done |= numbers
+            else:
+                waiting |= {it for it in numbers - handed_on if it in said.gone and said.gone[it].how == "done"}
+                self._again |= {folder_of(its[0])} if handed_on else set()
+        return said.without(gone=waiting, lost=done)
 
-    def _read(self, jobs: Collection[int]) -> logged.Said:
-        """What the log says of jobs since the copy was made."""
-        return logged.read(self._settings.log, self._owner, self._source.word, self._source.mark, jobs, [it.word for it in self._times])
+    def _read(self, jobs: Collection[int], pieces: Collection[int] = ()) -> logged.Said:
+        """What the log says of jobs since the copy was made. Some of them brought pieces of files here."""
+        return logged.read(self._settings.log, self._owner, self._source.word, self._source.mark, jobs, [it.word for it in self._times], pieces)
 
     def _handed(self) -> set[int]:
         """The jobs of which notes say that Taylor UUCP has them."""
@@ -308,16 +322,17 @@ class Restoration:
 
     def _fill(self, made: Target, known: Collection[int]) -> None:
         """Puts beside the made spool what is beside the one that is there, and what only the copy has. (If that is another spool,
-        what is noted of its jobs stays there.) These jobs are in the copy, or gone since."""
+        what is noted of its jobs stays there.) These jobs are in the copy, or gone since. A file that is to be handed on again is
+        as the copy has it, because the one that is there says that it was delivered."""
         names = {it for it in os.listdir(self._place.handle) if self._is_carried(it)}
-        with Copier([self._place.seen.st_uid], self._owner) as copier:
+        again = [f"pieces/{it}" for it in sorted(self._again)]
+        with Copier([self._place.seen.st_uid], self._owner, [f"{self._place.path}/{it}" for it in again]) as copier:
             for name in sorted(names):
                 self._carry(name, made, copier, known)
             self._finish(copier)
         with Copier([self._place.seen.st_uid]) as copier:
-            for name in BESIDE:
-                if name not in names:
-                    self._source.take(name, made, copier)
+            for name in [it for it in BESIDE if it not in names] + again * ("pieces" in names):
+                self._source.take(name, made, copier)
             self._finish(copier)
 
     def _finish(self, copier: Copier) -> None:

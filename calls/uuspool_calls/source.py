@@ -1,5 +1,6 @@
 """A copy that uuspool-backup made, of which the spool is put back."""
 import contextlib
+import itertools
 import os
 import re
 import stat
@@ -85,9 +86,12 @@ class Source:
                     target.put(f"{self.name}{end}", handle)
 
     def take(self, folder: str, target: Target, copier: Copier) -> None:
-        """Takes a folder that the copy has beside the spool."""
-        if files.look(folder, self._spool, follows=False):
-            copier.take(f"{self.path}/spool/{folder}", target.folder(folder))
+        """Takes a folder that the copy has beside the spool, or one below such a folder."""
+        for path in itertools.accumulate(folder.split("/"), "{}/{}".format):
+            if not (seen := files.look(path, self._spool, follows=False)):
+                return
+            target = target.folder(os.path.basename(path), seen)
+        copier.take(f"{self.path}/spool/{folder}", target)
 
     def _opened_own(self, name: str) -> int | None:
         """A file of the spool's user. (Another one's would be a file that the site can't open.)"""
