@@ -13,6 +13,7 @@ from uuspool_calls import kernel, logged, place, restore, restored, source
 from uuspool_calls.copies import Target
 from uuspool_calls.errors import Failure, SpoolError
 from uuspool_calls.exchange import Neighbour
+from uuspool_calls.jobs import Job
 from uuspool_calls.settings import Settings
 from uuspool_calls.spool import Refused, Settled
 
@@ -321,7 +322,80 @@ class History:
             raise AssertionError(f"{things} should wait, and not {self.jobs}, after\n{''.join(self.log)}")
 
 
+class FileHistory:
+    """A file that came in two pieces, which are kept, handed on in two, done and killed; copies are made and put back, in any order. The log and
+    the folder of the file say what the commands say there."""
+
+    def __init__(self, seed: int, folder: str) -> None:
+        self.random, self.folder = random.Random(seed), folder
+        self.waiting, self.next = {1: 0, 2: 1}, 3  # the pieces that wait here, by their jobs, and the next number
+        self.kept: set[int] = set()  # the pieces that are kept
+        self.came = ""  # by which mark it was handed on, if that is noted
+        self.onward: dict[int, tuple[str, int]] = {}  # the pieces that wait for the next site, each with its mark
+        self.there: set[tuple[str, int]] = set()  # those that it has
+        self.copies: list[tuple[str, dict[int, int], set[int], str, dict[int, tuple[str, int]]]] = []
+        self.log: list[str] = []
+
+    def step(self) -> None:
+        does = self.random.choice(["deliver", "deliver", "go", "copy", "put_back"])
+        if {"deliver": self.waiting, "go": self.onward, "put_back": self.copies}.get(does, [1]):
+            getattr(self, does)()
+
+    def deliver(self) -> None:
+        number = self.random.choice(sorted(self.waiting))
+        is_last = not self.came and self.kept | {self.waiting[number]} == {0, 1}
+        self.kept.add(self.waiting.pop(number))
+        if is_last:
+            self.came = f"{number}-2026-11-28-10:00:00"
+            for at in 0, 1:
+                self.log.append(line(1, self.next, f"exec -gN -- phs uuspool-piece 0f.2.1.{self.came} {at} exec rmail joe").replace(" ann ", " duke!ann "))
+                self.onward[self.next] = (self.came, at)
+                self.next += 1
+        self.log.append(line(1, number, "done mysite"))
+        self.log.append(line(1, number, "exec rmail phs!joe" if is_last else "piece 1 of 2", "delivered" if is_last else "kept"))
+
+    def go(self) -> None:
+        for number in sorted(self.onward):
+            self.there.add(self.onward.pop(number))
+            self.log.append(line(1, number, "settle phs"))
+
+    def copy(self) -> None:
+        self.copies.append((f"{len(self.copies):04}", dict(self.waiting), set(self.kept), self.came, dict(self.onward)))
+        self.log.append(about("copied", self.copies[-1][0], "w"))
+
+    def put_back(self) -> None:
+        del self.copies[self.random.randrange(len(self.copies)) + 1 :]  # (Those of a past that is given up aren't put back.)
+        mark, waiting, kept, came, onward = self.copies[-1]
+        with open(f"{self.folder}/log", "w", encoding="ascii") as file:
+            file.writelines(self.log)
+        its = restore.Restoration(Quiet(self.folder), mock.Mock(), "", mock.Mock(), mock.Mock(word="w", mark=mark))
+        its._settings = Settings("mysite", "", self.folder, "", f"{self.folder}/log", "UTC0")
+        words = {number: f"mysite duke!ann N 2026-11-28 10:00:00 1 exec uuspool-piece {'0' * 64}.2.1.m {at} exec rmail phs!joe" for number, at in waiting.items()}
+        words |= {number: f"phs duke!ann N 2026-11-28 10:00:00 1 exec uuspool-piece {'f' * 64}.2.1.{its_mark} {at} exec rmail joe" for number, (its_mark, at) in onward.items()}
+        said = its._said([Job.read(f"{number} {text}") for number, text in sorted(words.items())])
+        left = {number for number in words if number not in said.gone or number in said.lost}
+        self.waiting, self.onward = ({number: it for number, it in jobs.items() if number in left} for jobs in (waiting, onward))
+        if its._again:
+            self.kept, self.came = set(kept), came
+        self.log.append(about("restored", mark, "w"))
+        self.expect()
+
+    def expect(self) -> None:
+        """It comes once: it is on its way or there under one mark, or all of its pieces are here, and aren't known as handed on."""
+        gone = self.there | set(self.onward.values())
+        marks = [mark for mark, at in gone if at and (mark, 0) in gone]
+        is_here = not self.came and self.kept | set(self.waiting.values()) == {0, 1}
+        if len(marks) + (is_here and self.waiting.keys() > set()) != 1:
+            raise AssertionError(f"{vars(self)} after\n{''.join(self.log)}")
+
+
 class Histories(Folder):
+    def test_a_file_that_came_in_pieces_comes_once(self) -> None:
+        for seed in range(400):
+            history = FileHistory(seed, self.folder)
+            for _ in range(seed % 40):
+                history.step()
+
     def test_nothing_is_lost_and_nothing_comes_again(self) -> None:
         for seed in range(300):
             history = History(seed, f"{self.folder}/log")
