@@ -23,6 +23,9 @@ FILES = ("spool.db", "spool.db-wal")
 WORD = "-"  # the word of a test's spool, so that its bundles are the same each time
 KEPT = ("database", "log")  # the same files in a folder of tests/spools
 GRADES = "0123456789ABCDEFGHIJKLMNOPQRSTUVWXYZabcdefghijklmnopqrstuvwxyz"
+FAILED = []  # what is said of each check that failed
+MOST_AGAIN = 20  # of these at the end, so much of each
+LONGEST_AGAIN = 400
 
 
 class Wrong(Exception):
@@ -94,6 +97,13 @@ def finds_fault(check):
     return False
 
 
+def note_failed(said):
+    """Says that a check failed, and says it again before the test's last line. Returns that for the counts."""
+    print(said, flush=True)
+    FAILED.append(said)
+    return collections.Counter(failed=1)
+
+
 def tally(where, checks, faults=FAULTS):
     """Runs checks, each a name and a function, and prints those that fail. Returns how many
     `passed`, `failed` and were `left out`."""
@@ -107,16 +117,23 @@ def tally(where, checks, faults=FAULTS):
                 print(f"{where}: {name}: left out: {what}", flush=True)
                 counts["left out"] += 1
             except faults as error:
-                print(f"{where}: {name}: {error}", flush=True)
-                counts["failed"] += 1
+                counts += note_failed(f"{where}: {name}: {error}")
     except faults as error:
-        print(f"{where}: {error}", flush=True)
-        counts["failed"] += 1
+        counts += note_failed(f"{where}: {error}")
     return counts
 
 
+def say_again(what):
+    """Prints in one line each what failed. Whoever sees just the end of a long output knows it by that."""
+    for said in FAILED[:MOST_AGAIN]:
+        print(f"{what}: failed: {' '.join(said.removeprefix(f'{what}: ').split())[:LONGEST_AGAIN]}")
+    if len(FAILED) > MOST_AGAIN:
+        print(f"{what}: failed: {len(FAILED) - MOST_AGAIN} more")
+
+
 def ended(what, counts):
-    """Prints a test's last line, and returns its status."""
+    """Prints what failed again, and a test's last line, and returns its status."""
+    say_again(what)
     left = f", {counts['left out']} left out" if "left out" in counts else ""
     print(f"{what}: {counts['passed']} passed, {counts['failed']} failed{left}")
     return 1 if counts["failed"] or not counts["passed"] else 0

@@ -108,8 +108,9 @@ class Programs(Folder):
         running._GRACE, running._MARGIN = 1, 0
         try:
             began = time.monotonic()
-            self.assertEqual(137, self.sh("kill -STOP $PPID; sleep 4", limit=0.3).status)
-            self.assertLess(time.monotonic() - began, 3.5)
+            # (The limit is long enough for the program to begin first.)
+            self.assertEqual(137, self.sh("kill -STOP $PPID; sleep 60", limit=5).status)
+            self.assertLess(time.monotonic() - began, 40)
         finally:
             running._GRACE, running._MARGIN = before
 
@@ -140,7 +141,7 @@ class Programs(Folder):
 
 class Stops(Folder):
     def in_child(self, work, begun: str = "") -> int:  # type: ignore[no-untyped-def]
-        """The status of a process that is stopped within its work, once this file is there."""
+        """The status of a process that is stopped within its work, once this file has something."""
         ready, told = os.pipe()
         child = os.fork()
         if child == 0:
@@ -154,7 +155,7 @@ class Stops(Folder):
                 os._exit(75)
         os.read(ready, 1)
         ends = time.monotonic() + 60
-        while begun and not os.path.exists(f"{self.folder}/{begun}") and time.monotonic() < ends:
+        while begun and not files.read_bytes(f"{self.folder}/{begun}") and time.monotonic() < ends:
             time.sleep(0.02)
         time.sleep(0.3)
         os.kill(child, signal.SIGTERM)
@@ -182,7 +183,7 @@ class Stops(Folder):
         """Also if it ends its `timeout`, or begins a session. What ends well leaves it: a mailer goes on so."""
         far = f"setsid sh -c 'sleep 1000 & echo $! >{self.folder}/pid; exec sleep 1000' & until [ -s pid ]; do sleep 0.02; done"
         for script, limit, status in (
-            ("echo $$ >pid; kill -KILL $PPID; sleep 1000", 100, 137), (f"{far}; exit 3", 100, 3), (f"{far}; sleep 1000", 0.5, 124), (f"{far}; kill -KILL $PPID", 100, 137), (f"{far}; exit 0", 100, 0),
+            ("echo $$ >pid; kill -KILL $PPID; sleep 1000", 100, 137), (f"{far}; exit 3", 100, 3), (f"{far}; sleep 1000", 5, 124), (f"{far}; kill -KILL $PPID", 100, 137), (f"{far}; exit 0", 100, 0),
         ):  # fmt: skip
             program = Program(["sh", "-c", script], self.folder, dict(os.environ), limit, leaves_none=True)
             child = Child(lambda program=program: Processes().run(program).status)

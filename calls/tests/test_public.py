@@ -39,6 +39,22 @@ class Public(Folder):
             self.assertGreater(seen[0], seen[1] + 86400)
             os.utime(f"{self.folder}/public/duke/.uuspool", (1, 1))
 
+    def test_the_first_two_files_of_a_neighbour_come_at_once(self) -> None:
+        its, is_marked = public.Public(f"{self.folder}/public", "mysite", "duke"), public._is_marked
+
+        def look_before(folder: int) -> bool:
+            looks.side_effect = is_marked
+            with memory_file(b"x") as content:
+                its.put("x", content)
+            return False
+
+        with mock.patch.object(public, "_is_marked", side_effect=look_before) as looks, memory_file(b"y") as content:
+            its.put("y", content)
+        self.assertEqual([".uuspool", "x", "y"], sorted(os.listdir(f"{self.folder}/public/duke")))
+        self.give(f"{self.folder}/public/duke/.uuspool")
+        with self.assertRaisesRegex(Delay, "~/z cannot be written"), memory_file(b"z") as content:
+            its.put("~/z", content)
+
     def test_the_mark_stays_newer_than_what_came_while_the_clock_was_ahead(self) -> None:
         its, now = public.Public(f"{self.folder}/public", "mysite", "duke"), time.time()
         with memory_file(b"x") as content:

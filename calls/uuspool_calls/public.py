@@ -356,7 +356,11 @@ def _mark(folder: int) -> None:
     """Marks the folder of a neighbour. What removes old files, such as Debian's uudemon.day, has to remove the mark
     last, so it gets a time to come, and never an earlier one: while the clock was ahead, files got such times, too."""
     if not _is_marked(folder):
-        os.close(os.open(MARK, _MAKE_FILE, 0o600, dir_fd=folder))
+        try:
+            os.close(os.open(MARK, _MAKE_FILE, 0o600, dir_fd=folder))
+        except FileExistsError:
+            if not _is_marked(folder):  # (by another delivery meanwhile)
+                raise
     its = look(MARK, folder, follows=False)
     ahead = max(clock.now() + _AHEAD, its.st_mtime if its else 0)
     with contextlib.suppress(PermissionError):  # (if it is root's)
