@@ -315,6 +315,23 @@ class Refused(Arrivals):
         self.assertEqual([("mail", f"--once=mysite!{number}!refused", "--", "a!ann") for number in (1, 9)], sorted(self.letters()))
         self.assertEqual("refused", self.delivery_again(1000))
 
+    def test_a_letter_whose_key_is_forgotten_reaches_its_user(self) -> None:
+        """(The file's first job is gone for long when the file is refused.)"""
+        self.give(0)
+        deliver._refuse_unfinished(self.site, aged(31))
+        ask = self.spool.ask
+
+        def forgotten(*words: str, given: bytes | int = b"") -> str:
+            answer = ask(*words, given=given)
+            if any(it.startswith("--once=") for it in words):
+                raise SpoolError(1, "refused Stale")
+            return answer
+
+        with mock.patch.object(self.spool, "ask", forgotten):
+            self.assertEqual(0, refusals.tell(self.site))
+        self.assertEqual([("mail", "--once=mysite!1!refused", "--", "a!ann"), ("mail", "--", "a!ann")], self.letters())
+        self.assertFalse(os.path.exists(f"{self.folder}/letter"))
+
     def delivery_again(self, at: int) -> str:
         with memory_file(DATA[at : at + LENGTH]) as content:
             return self.delivery.deliver(self.job(words_of(DATA, at), content)).how
