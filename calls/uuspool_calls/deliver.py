@@ -211,7 +211,11 @@ class Deliverer:
         """Tries a job, unless it is gone, or another process delivers it. One that hangs delays no
         round."""
         with self._site.lock(f"deliver/{number}{LOCK}") as lock:
-            parcel = self._site.spool.show(number) if lock.take() and lock.is_current() else None
+            if not (lock.take() and lock.is_current()):
+                return 0
+            if not refusals.finish(self._site, number):
+                return LATER
+            parcel = self._site.spool.show(number)
             if parcel is None:
                 return 0
             if parcel.job.system != self._own:

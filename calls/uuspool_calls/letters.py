@@ -115,7 +115,7 @@ class Mailroom:
 
     def _queue(self, user: str, text: bytes, key: str) -> bool:
         self._site.will_forget_keys()
-        spool, system = self._site.spool, user.partition("!")[0]
+        system = user.partition("!")[0]
         try:
             if self._has_many(system):
                 self._site.log.note(system, user, "", "not-told", f"{_MOST_WAITING} letters wait for {system}")

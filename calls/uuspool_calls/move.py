@@ -6,7 +6,7 @@ Mail is addressed on, from the new neighbour to the old one, so it arrives at it
 are kept, for a neighbour that now does what the old one did."""
 from collections.abc import Sequence
 
-from . import moves
+from . import moves, refusals
 from .errors import LATER, USAGE, Failure, spool_needed
 from .jobs import Job
 from .pieces import name_of, whole_of
@@ -34,6 +34,8 @@ def run(session: Session, words: Sequence[str]) -> int:
         if not lock.wait(_PATIENCE, session.processes.pause):
             raise Failure(LATER, f"{origin} is being called by another process")
         moves.finish_all(site)
+        if not refusals.finish(site):
+            raise Failure(LATER, "nothing is moved while a job that is refused cannot be removed from the spool")
         for chosen in _chosen(site, origin, set(map(int, numbers))):
             _move(site, chosen, origin, target, keeps)
     return 0
