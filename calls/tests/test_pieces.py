@@ -4,6 +4,8 @@ import hashlib
 import json
 import os
 import shutil
+import signal
+import time
 import unittest
 from functools import partial
 from unittest import mock
@@ -14,6 +16,7 @@ from uuspool_calls.errors import Delay, Failure, Refusal, SpoolError, Stopped
 from uuspool_calls.files import memory_file
 from uuspool_calls.jobs import Delivered, Job
 from uuspool_calls.pieces import COMMAND, Piece
+from uuspool_calls.processes import Child
 
 from .standins import LINE, Folder, StandIn, aged, parcel, site
 
@@ -204,6 +207,27 @@ class Coming(Arrivals):
                 self.delivery.deliver(self.job((COMMAND, file, str(at), "exec", "rmail", "joe"), content))
         first, _, rest = self.bytes_of("mail").partition(b"\n")
         self.assertEqual((True, True), (first.startswith(b"From ann ") and first.endswith(b" remote from a"), rest == data))
+
+    def test_a_command_whose_beginner_was_killed_runs_once_whichever_piece_comes_again(self) -> None:
+        self.put("rmail", f"#!/bin/sh\necho $$ >>{self.folder}/ran\nexec sleep 100\n", 0o755)
+        for at in 0, 1000:
+            self.take(DATA, at, "exec", "rmail", "joe")
+        delivery = Child(lambda: self.take(DATA, 2000, "exec", "rmail", "joe") and 0)
+        while not (os.path.exists(f"{self.folder}/ran") and self.bytes_of("ran")):
+            time.sleep(0.01)
+        delivery.kill()
+        delivery.wait()
+        self.assertEqual(1, deliver._still_working(self.folder))
+        for at in 2000, 1000:
+            with self.assertRaisesRegex(Delay, "^rmail at mysite still works on it, though what began it was ended"):
+                self.take(DATA, at, "exec", "rmail", "joe")
+        [number] = map(int, self.bytes_of("ran").split())
+        os.kill(number, signal.SIGKILL)
+        self.expect_end(number)
+        self.put("rmail", "#!/bin/sh\n", 0o755)
+        while deliver._still_working(self.folder):
+            time.sleep(0.01)
+        self.assertTrue(self.take(DATA, 0, "exec", "rmail", "joe").is_last)
 
     def test_a_command_that_fails_is_tried_again_with_the_last_piece(self) -> None:
         self.put("busy")

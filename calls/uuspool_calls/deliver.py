@@ -131,7 +131,8 @@ def _deliver_all(site: Site, deliverer: "Deliverer", numbers: Sequence[int], loc
 
 def _still_working(folder: str) -> int:
     """How many commands of earlier rounds still work."""
-    return sum(works.is_so(f"{folder}/deliver/{name}") for name in files.names_in(f"{folder}/deliver") if name.endswith(_WORKS))
+    of_jobs = [f"{folder}/deliver/{name}" for name in files.names_in(f"{folder}/deliver") if name.endswith(_WORKS)]
+    return sum(map(works.is_so, (*of_jobs, *map(pieces.working_in, pieces.kept_in(f"{folder}/pieces")))))
 
 
 def _delivery(session: Session, deliverer: "Deliverer", number: int) -> Child:
@@ -254,9 +255,6 @@ class Deliverer:
         if job.kind == "request" or (job.kind == "exec" and job.words[0] == REQUEST):
             self._send_file(delivered, job.words[job.kind == "exec" :])
             return Outcome(job.what)
-        if works.is_so(delivered.working):
-            raise Delay(f"{job.words[0]} at {self._own} still works on it, though what began it was ended")
-        works.end_left(delivered.working)
         return self._delivery.deliver(delivered)
 
     def _send_file(self, job: Delivered, words: Sequence[str]) -> None:

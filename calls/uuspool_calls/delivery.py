@@ -41,6 +41,7 @@ class Delivery:
 
     def deliver(self, job: Delivered) -> Outcome:
         """Delivers a job. Refusal if it never can be delivered, Delay if it can't be now."""
+        self._expect_at_rest(job)
         self._expect_allowed(job)
         if job.words[0] == COMMAND and job.kind == "exec":
             return self._take_piece(job)
@@ -49,6 +50,13 @@ class Delivery:
             return Outcome(job.what)
         put = self.public_of(job.sender).put(job.words[1], job.content)
         return Outcome(job.what + _other(job.words[1], put), wishes=Wishes.read(job.words[2:]))
+
+    def _expect_at_rest(self, job: Delivered) -> None:
+        """Delay if a command works on a job, though what began it is gone. What that left of it is ended."""
+        if job.working:
+            if works.is_so(job.working):
+                raise Delay(f"{job.words[0]} at {self._own} still works on it, though what began it was ended")
+            works.end_left(job.working)
 
     def _expect_allowed(self, job: Delivered) -> None:
         """Refusal of what no bytes can change. So a file is refused with its first piece."""
@@ -105,8 +113,8 @@ class Delivery:
         """Keeps a piece. With the last one the whole is delivered as a job of its own, once, even after a stop."""
         piece = _piece(job)
         kind, *words = piece.words
-        whole = job._replace(kind=kind, words=tuple(words))
         with self._held(job) as file:
+            whole = job._replace(kind=kind, words=tuple(words), working=file.working)
             if file.about.came_with(job.name):
                 return Outcome(file.about.what, is_last=True, wishes=Wishes.read(words[2:] if kind == "send" else ()))
             if file.about.came:
