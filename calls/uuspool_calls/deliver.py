@@ -202,7 +202,7 @@ class Deliverer:
         self._site, self._own = site, site.own
         self._folder = f"{site.folder}/deliver"
         folders, environment = (site.folder, f"{site.folder}/refused"), {**site.environment, "UUSPOOL_HERE": self._own}
-        self._delivery = Delivery(site.session, self._own, folders, environment, self._hand_on, self._is_system)
+        self._delivery = Delivery(site.session, self._own, folders, environment, self._hand_on, self._is_system, site.word())
 
     def run(self, session: Session, words: Sequence[str]) -> int:
         """Tries the jobs with these numbers."""

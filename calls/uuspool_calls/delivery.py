@@ -1,9 +1,9 @@
 """How one job is delivered at this site. Each word of a stranger goes to its program as one word."""
 import contextlib
-from collections.abc import Callable, Mapping, Sequence
+from collections.abc import Callable, Iterator, Mapping, Sequence
 from functools import partial
 
-from . import commands, envelope, forward, public, works
+from . import commands, envelope, files, forward, public, works
 from .errors import Delay, Refusal
 from .jobs import MAIL, Delivered, Wishes
 from .pieces import COMMAND, File, Piece, Pieces, cannot_be_kept
@@ -14,6 +14,7 @@ from .values import NamedTuple
 
 _MOST_SHOWN = 200  # bytes of what a command prints
 _KILLED = 137
+_PATIENCE = 60  # seconds for another file of the sender to get its name
 
 
 class Outcome(NamedTuple):
@@ -33,8 +34,8 @@ class Delivery:
     """Delivers jobs at a site, from the folder in which it works. What is refused of files that come in pieces goes to
     another one. Mail that was too large for the spool to hand on is handed on here."""
 
-    def __init__(self, session: Session, own: str, folders: tuple[str, str], environment: Mapping[str, str], hand_on: HandOn, is_system: IsSystem) -> None:
-        self._session, self._own, self._environment = session, own, environment
+    def __init__(self, session: Session, own: str, folders: tuple[str, str], environment: Mapping[str, str], hand_on: HandOn, is_system: IsSystem, word: str = "") -> None:
+        self._session, self._own, self._environment, self._word = session, own, environment, word
         self._folder, self._refused = folders
         self._hand_on, self._is_system = hand_on, is_system
         self._limit = session.command_limit
@@ -48,7 +49,7 @@ class Delivery:
         if job.kind == "exec":
             self._run(job)
             return Outcome(job.what)
-        put = self.public_of(job.sender).put(job.words[1], job.content)
+        put = self.public_of(job.sender).put(job.words[1], job.content, partial(self._is_newest, job))
         return Outcome(job.what + _other(job.words[1], put), wishes=Wishes.read(job.words[2:]))
 
     def _expect_at_rest(self, job: Delivered) -> None:
@@ -95,6 +96,23 @@ class Delivery:
         common = self._environment.get("UUSPOOL_PUBLIC", "")
         return public.find(common, f"{self._session.etc}/public", sender, self._own)
 
+    @contextlib.contextmanager
+    def _is_newest(self, job: Delivered, name: str) -> Iterator[bool]:
+        """Whether no newer job of the sender put a file of this name. No other one puts a file meanwhile."""
+        from . import newest  # (which few jobs need)
+
+        sender = job.sender or self._own
+        path = f"{self._folder}/deliver/.{sender}.files"
+        with contextlib.ExitStack() as held:
+            try:
+                lock = held.enter_context(files.Lock(f"{path}.lock"))
+                if not lock.wait(_PATIENCE, self._session.processes.pause):
+                    raise Delay(f"{name} waits at {self._own} for another file of {sender}")
+                is_newest = newest.note(path, self._word, name, job.number)
+            except OSError as error:
+                raise Delay(f"{name} waits at {self._own}, because {path} cannot be written: {error.strerror}") from None
+            yield is_newest
+
     def _pieces_of(self, job: Delivered) -> Pieces:
         folder = f"{self._folder}/pieces/{job.sender or self._own}"
         return Pieces(folder, self._refused, self._session.processes.pause, self._limit)
@@ -114,7 +132,7 @@ class Delivery:
         piece = _piece(job)
         kind, *words = piece.words
         with self._held(job) as file:
-            whole = job._replace(kind=kind, words=tuple(words), working=file.working)
+            whole = job._replace(kind=kind, words=tuple(words), working=file.working, first=file.about.job)
             if file.about.came_with(job.name):
                 return Outcome(file.about.what, is_last=True, wishes=Wishes.read(words[2:] if kind == "send" else ()))
             if file.about.came:
