@@ -95,9 +95,17 @@ unknown() { fail "$usage" "no option $1: see $front --help"; }
 # status of sysexits. The program's status 2 means faulty words or faulty settings. Faulty settings are the
 # site's fault, so a message waits until they are corrected. They fail a question with right words, too. So is a clock
 # beyond what the program knows.
-# A key of the terminal ends nothing that queues a piece.
+# A key of the terminal ends nothing that queues a piece. What sudo warns of is no part of an answer.
 ask() {
-    said=$([ -z "$its_pieces" ] || trap '' HUP INT TERM; $spool "$@" 2>&1) && return
+    said=$(
+        [ -z "$its_pieces" ] || trap '' HUP INT TERM
+        exec 3>&1
+        errors=$($spool "$@" 2>&1 >&3 3>&-)
+        ended=$?
+        if [ "$ended" -eq 0 ]; then exec >&2; fi
+        [ -z "$errors" ] || plainly "$errors"
+        exit "$ended"
+    ) && return
     ended=$?
     case $ended in
     1) status=$refused ;;

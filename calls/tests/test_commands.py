@@ -201,6 +201,16 @@ class Carriers(Folder):
                     self.assertEqual(before, files.read_bytes(keys))
                     undo()
 
+    def test_no_two_neighbours_have_a_bundle_of_one_name_in_a_folder(self) -> None:
+        for there in ["duke", "duke.2", "duke.bundle", "duke.bundle.2"], ["duke"]:
+            names = list[str]()
+            for system in there:
+                shared = folder.Folder(Quiet(self.folder), os.open(self.folder, os.O_RDONLY), self.folder, system, [])
+                exchange = folder.Exchange(Quiet(self.folder, UUSPOOL_HERE="mysite"), system, shared)
+                names += [name(number) for name in (exchange._ours, exchange._theirs) for number in (1, 2, 3)]
+            self.assertEqual(6 * len(there), len(set(names)), names)
+        self.assertEqual(["mysite-duke.bundle", "mysite-duke.bundle.2"], names[:2])
+
     def test_bundles_in_a_folder(self) -> None:
         session = Quiet(self.folder)
         shared = folder.Folder(session, os.open(self.folder, os.O_RDONLY), self.folder, "duke", [])

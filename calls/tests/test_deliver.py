@@ -6,7 +6,7 @@ from functools import partial
 from unittest import mock
 
 from uuspool_calls import cli, commands, deliver, executions, records, refuse, works
-from uuspool_calls.errors import Delay, Failure, Refusal
+from uuspool_calls.errors import Delay, Failure, Refusal, SpoolError, Stopped
 from uuspool_calls.files import Lock, memory_file
 from uuspool_calls.jobs import Job
 from uuspool_calls.processes import Child, Children, Processes, Program
@@ -333,6 +333,18 @@ class Refused(Folder):
         spool.parcels.clear()
         with self.assertRaisesRegex(Failure, "^there is no job 7"):
             refuse._refuse(its, its7, "why")
+
+
+    def test_what_a_stop_left_refused_is_not_delivered(self) -> None:
+        spool = StandIn([parcel(LINE.replace("duke", "mysite"))])
+        its = site(self.folder, spool)
+        with mock.patch.object(spool, "kill", side_effect=Stopped), self.assertRaises(Stopped):
+            refuse._refuse(its, spool.parcels[7], "why")
+        spool.fails["kill"] = SpoolError(3, "uuspool: spool: store")
+        self.assertEqual((75, [7]), (deliver.Deliverer(its).deliver(7), list(spool.parcels)))
+        spool.fails.clear()
+        self.assertEqual((0, []), (deliver.Deliverer(its).deliver(7), list(spool.parcels)))
+        self.assertEqual(["7.untold"], os.listdir(f"{self.folder}/refused"))
 
 
 class Senders(Folder):

@@ -3,13 +3,14 @@ import contextlib
 import json
 import os
 import re
+import shutil
 import signal
 import time
 from unittest import mock
 
 from uuspool_calls import moves, works
-from uuspool_calls.errors import Failure, SpoolError
-from uuspool_calls.exchange import Neighbour, NoBundle, NotTaken, expect_size
+from uuspool_calls.errors import Failure, SpoolError, Stopped
+from uuspool_calls.exchange import Neighbour, NoBundle, NotTaken, expect_size, finish_begun
 from uuspool_calls.jobs import Job, Parcel
 from uuspool_calls.letters import Letter, Mailroom, NotSent, at_home
 from uuspool_calls.processes import Ended
@@ -231,7 +232,64 @@ class Refusing(Folder):
     def test_a_job_that_cannot_be_refused_waits(self) -> None:
         self.spool.fails["kill"] = SpoolError(3, "uuspool: spool: store")
         self.assertFalse(self.refuse())
-        self.assertEqual(["job 7 cannot be refused now, and waits: uuspool: spool: store"], self.site.session.said)
+        self.assertEqual(["job 7 cannot be refused now, and waits: uuspool: spool: store"] * 2, self.site.session.said)
+        self.assertEqual((75, []), (self.told, self.mailer.ran))
+
+    def stop(self, *numbers: int) -> None:
+        """A stop comes before one of these jobs is removed."""
+        kill = self.spool.kill
+
+        def stopped(job: Job) -> None:
+            if job.number in numbers:
+                raise Stopped
+            kill(job)
+
+        with mock.patch.object(self.spool, "kill", stopped), self.assertRaises(Stopped):
+            Refuser(self.site).refuse(self.spool.parcels[7], "no")
+
+    def names(self) -> list[str]:
+        return sorted(it for it in os.listdir(f"{self.folder}/refused") if it[0] != ".")
+
+    def test_a_job_is_removed_before_anybody_is_told(self) -> None:
+        self.stop(7)
+        self.assertEqual(([7], ["7.waiting.untold"]), (list(self.spool.parcels), self.names()))
+        self.spool.fails["kill"] = SpoolError(3, "uuspool: spool: store")
+        self.assertEqual((75, []), (tell(self.site), self.mailer.ran))
+        with self.assertRaisesRegex(Failure, "^nothing goes to duke while a job that is refused cannot be removed"):
+            finish_begun(self.site, "duke")
+        self.spool.fails.clear()
+        self.spool.parcels[7] = parcel(LINE.replace(" N 2026-11-28 10:", " A 2026-11-28 11:"))  # (regraded, by another clock)
+        self.assertEqual((0, [], ["7"]), (tell(self.site), list(self.spool.parcels), self.names()))
+        self.assertEqual((1, ["duke ann 7 refused-for-good no"]), (len(self.mailer.ran), self.site.log))
+
+    def test_a_call_removes_a_job_before_it_goes(self) -> None:
+        self.stop(7)
+        self.assertEqual([True, False], [finish_begun(self.site, "duke") for _ in range(2)])
+        self.assertEqual(([], ["7.untold"]), (list(self.spool.parcels), self.names()))
+
+    def test_another_job_of_the_number_of_one_that_is_refused_stays(self) -> None:
+        self.stop(7)
+        self.spool.parcels[7] = parcel(LINE, b"Hello")
+        self.assertEqual((0, [7], ["7"]), (tell(self.site), list(self.spool.parcels), self.names()))
+
+    def test_a_stop_leaves_no_piece_of_a_file_that_is_refused(self) -> None:
+        lines = [LINE.replace("7", str(at), 1).replace(" 5 ", " 1000 ").replace("rmail joe", f"{FILE} {(at - 7) * 1000} send /x ~/y") for at in (7, 8, 9)]
+        parcels = {it.job.number: it for it in (parcel(line, bytes(1000)) for line in lines)}
+        for number, left in (7, 3), (8, 2), (9, 1):
+            self.spool.parcels = dict(parcels)
+            self.stop(number)
+            self.assertEqual(left, len(self.spool.parcels))
+            self.assertEqual((0, {}), (tell(self.site), self.spool.parcels))
+            shutil.rmtree(f"{self.folder}/refused")
+            os.mkdir(f"{self.folder}/refused")
+        self.spool.parcels = dict(parcels)
+        with mock.patch.object(self.spool, "kill", side_effect=Stopped), self.assertRaises(Stopped):
+            Refuser(self.site).refuse_alone(self.spool.parcels[7], "no")
+        self.assertEqual((0, [8, 9]), (tell(self.site), list(self.spool.parcels)))
+        shutil.rmtree(f"{self.folder}/refused")
+        self.spool.parcels = dict(parcels)
+        self.put("refused/7.waiting.untold", b"no\n" + parcels[7].text)  # (a stop before the second one is kept)
+        self.assertEqual((0, {}), (tell(self.site), self.spool.parcels))
 
     def test_a_letter_that_cannot_be_sent_is_tried_again(self) -> None:
         self.mailer.status = 75

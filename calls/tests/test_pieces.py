@@ -5,16 +5,19 @@ import hashlib
 import json
 import os
 import shutil
+import signal
+import time
 import unittest
 from functools import partial
 from unittest import mock
 
-from uuspool_calls import clock, deliver, files, outgoing, pieces, records, refusals
-from uuspool_calls.delivery import Delivery, Outcome, Wishes
+from uuspool_calls import clock, deliver, files, newest, outgoing, pieces, records, refusals
+from uuspool_calls.delivery import Asked, Delivery, Outcome, Wishes
 from uuspool_calls.errors import Delay, Failure, Refusal, SpoolError, Stopped
 from uuspool_calls.files import memory_file
 from uuspool_calls.jobs import Delivered, Job
 from uuspool_calls.pieces import COMMAND, Piece
+from uuspool_calls.processes import Child
 
 from .standins import LINE, Folder, StandIn, aged, parcel, site
 
@@ -73,7 +76,7 @@ class Arrivals(Folder):
         self.session = self.site.session
         self.session.processes = type(self.session.processes).__mro__[1]()
         self.waiting: dict[int, Job] = {}  # as the spool has them
-        self.delivery = Delivery(self.session, "mysite", (self.folder, f"{self.folder}/refused"), self.session.environment, self.fail, ["mysite", "b"].__contains__, self.waiting.get)
+        self.delivery = Delivery(self.session, "mysite", (self.folder, f"{self.folder}/refused"), self.session.environment, Asked(self.fail, ["mysite", "b"].__contains__, self.waiting.get, "w1"))
         self.number = 0
 
     def job(self, words: tuple[str, ...], content: int, user: str = "a!ann") -> Delivered:
@@ -207,6 +210,27 @@ class Coming(Arrivals):
         first, _, rest = self.bytes_of("mail").partition(b"\n")
         self.assertEqual((True, True), (first.startswith(b"From ann ") and first.endswith(b" remote from a"), rest == data))
 
+    def test_a_command_whose_beginner_was_killed_runs_once_whichever_piece_comes_again(self) -> None:
+        self.put("rmail", f"#!/bin/sh\necho $$ >>{self.folder}/ran\nexec sleep 100\n", 0o755)
+        for at in 0, 1000:
+            self.take(DATA, at, "exec", "rmail", "joe")
+        delivery = Child(lambda: self.take(DATA, 2000, "exec", "rmail", "joe") and 0)
+        while not (os.path.exists(f"{self.folder}/ran") and self.bytes_of("ran")):
+            time.sleep(0.01)
+        delivery.kill()
+        delivery.wait()
+        self.assertEqual(1, deliver._still_working(self.folder))
+        for at in 2000, 1000:
+            with self.assertRaisesRegex(Delay, "^rmail at mysite still works on it, though what began it was ended"):
+                self.take(DATA, at, "exec", "rmail", "joe")
+        [number] = map(int, self.bytes_of("ran").split())
+        os.kill(number, signal.SIGKILL)
+        self.expect_end(number)
+        self.put("rmail", "#!/bin/sh\n", 0o755)
+        while deliver._still_working(self.folder):
+            time.sleep(0.01)
+        self.assertTrue(self.take(DATA, 0, "exec", "rmail", "joe").is_last)
+
     def test_a_command_that_fails_is_tried_again_with_the_last_piece(self) -> None:
         self.put("busy")
         self.take(DATA, 2000, "exec", "rmail", "joe")
@@ -331,6 +355,23 @@ class Refused(Arrivals):
         self.assertEqual([("mail", f"--once=mysite!{number}!refused", "--", "a!ann") for number in (1, 9)], sorted(self.letters()))
         self.assertEqual("refused", self.delivery_again(1000))
 
+    def test_a_letter_whose_key_is_forgotten_reaches_its_user(self) -> None:
+        """(The file's first job is gone for long when the file is refused.)"""
+        self.give(0)
+        deliver._refuse_unfinished(self.site, aged(31))
+        ask = self.spool.ask
+
+        def forgotten(*words: str, given: bytes | int = b"") -> str:
+            answer = ask(*words, given=given)
+            if any(it.startswith("--once=") for it in words):
+                raise SpoolError(1, "refused Stale")
+            return answer
+
+        with mock.patch.object(self.spool, "ask", forgotten):
+            self.assertEqual(0, refusals.tell(self.site))
+        self.assertEqual([("mail", "--once=mysite!1!refused", "--", "a!ann"), ("mail", "--", "a!ann")], self.letters())
+        self.assertFalse(os.path.exists(f"{self.folder}/letter"))
+
     def delivery_again(self, at: int) -> str:
         with memory_file(DATA[at : at + LENGTH]) as content:
             return self.delivery.deliver(self.job(words_of(DATA, at), content)).how
@@ -438,6 +479,98 @@ class Letters(Refused):
         for word in "-n", "-x", "m":
             with self.assertRaises(Refusal):
                 Wishes.read([word])
+
+
+class Newest(Refused):
+    """Files of one name of one sender."""
+
+    def put_in(self, number: int, path: str = "~/x", user: str = "a!ann") -> None:
+        data = f"{number}".encode()
+        self.spool.parcels[number] = parcel(f"{number} mysite {user} N 2026-11-28 10:00:00 {len(data)} send /x {path}", data)
+
+    def deliver(self, number: int) -> str:
+        """What the log says of the delivery of a job that is there, or comes now."""
+        if number not in self.spool.parcels:
+            self.put_in(number)
+        self.assertEqual(0, self.deliverer.deliver(number))
+        return self.log[-1]
+
+    def there(self) -> dict[str, str]:
+        top = f"{self.folder}/public/a"
+        return {name: self.bytes_of(f"public/a/{name}").decode() for name in sorted(os.listdir(top)) if name[0] != "."}
+
+    def test_an_older_one_that_comes_later_is_put_beside(self) -> None:
+        self.deliver(11)
+        for _ in range(2):
+            self.assertEqual("mysite a!ann 10 delivered send /x ~/x, as ~/x.2", self.deliver(10))
+        self.assertEqual({"x": "11", "x.2": "10"}, self.there())
+        self.deliver(12)
+        self.assertEqual({"x": "12", "x.2": "10"}, self.there())
+
+    def test_one_that_is_overtaken_while_it_is_delivered(self) -> None:
+        """(Both have all their bytes before one of them gets the name.)"""
+        ready = f"{self.folder}/ready"
+
+        def slow(source: int, target: int) -> None:
+            files.copy_all(source, target)
+            self.put("ready")
+            while os.path.exists(ready):
+                time.sleep(0.01)
+
+        with mock.patch("uuspool_calls.public.copy_all", slow):
+            older = Child(lambda: self.deliver(10) and 0)
+        while not os.path.exists(ready):
+            time.sleep(0.01)
+        self.deliver(11)
+        os.remove(ready)
+        self.assertEqual((0, {"x": "11", "x.2": "10"}), (older.wait(), self.there()))
+
+    def test_a_stop_before_the_newer_one_has_its_name(self) -> None:
+        self.deliver(9)
+        self.put_in(11)
+        with mock.patch("uuspool_calls.public._New.take", side_effect=Stopped), self.assertRaises(Stopped):
+            self.deliverer.deliver(11)
+        self.assertEqual({"x": "9"}, self.there())
+        self.deliver(10)
+        self.deliver(11)
+        self.assertEqual({"x": "11", "x.2": "10"}, self.there())
+
+    def test_a_file_in_pieces_is_as_old_as_its_first_piece(self) -> None:
+        self.give(0, "send", "/x", "~/x", number=1)
+        self.give(1000, "send", "/x", "~/x", number=2)
+        self.deliver(3)
+        self.give(2000, "send", "/x", "~/x", number=4)
+        self.assertEqual(("mysite a!ann 4 delivered send /x ~/x, as ~/x.2", "3", DATA), (self.log[-1], self.bytes_of("public/a/x").decode(), self.bytes_of("public/a/x.2")))
+
+    def test_another_sender_another_name_and_another_spool(self) -> None:
+        self.deliver(11)
+        for number, path, user in (3, "~/y", "a!ann"), (2, "~/d/x", "a!ann"), (1, "~/x", "b!ann"):
+            self.put_in(number, path, user)
+            self.deliver(number)
+        self.assertEqual(["3", "2", "1"], [self.bytes_of(f"public/{it}").decode() for it in ("a/y", "a/d/x", "b/x")])
+        self.put("spool.db-word", "w2\n")
+        self.deliverer = deliver.Deliverer(self.site)
+        self.put_in(5)
+        self.assertEqual("mysite a!ann 5 delivered send /x ~/x", self.deliver(5))
+        self.assertEqual("5", self.bytes_of("public/a/x").decode())
+
+    def test_the_record_of_a_sender_stays_small(self) -> None:
+        path = f"{self.folder}/deliver/.a.files"
+        numbers = range(100, 1300)
+        with mock.patch.object(files, "replace", lambda path, data, mode=0o600: self.put(path.removeprefix(f"{self.folder}/"), data)):
+            self.assertTrue(all(newest.note(path, "w1", f"{number}", number) for number in numbers))
+            self.assertLess(os.stat(path).st_size, 40_000)
+            self.assertEqual([False, False, True, False, True], [newest.note(path, "w1", name, number) for name, number in (("100", 99), ("new", 150), ("new", 300), ("1299", 1298), ("1299", 1299))])
+
+    def test_a_record_that_is_damaged_or_cannot_be_written(self) -> None:
+        for text in "x", "[]", '{"word": "w1"}', '{"word": "w1", "others": 0, "names": []}', '{"word": "w1", "others": 0, "names": {"a": "x"}}':
+            self.put("deliver/.a.files", text)
+            self.deliver(11)
+            self.assertEqual({"x": "11"}, self.there())
+        with mock.patch.object(files, "write_record", side_effect=OSError(errno.ENOSPC, os.strerror(errno.ENOSPC))), memory_file(b"12") as content:
+            with self.assertRaisesRegex(Delay, "^x waits at mysite, because .*/deliver/.a.files cannot be written: No space left"):
+                self.delivery.deliver(Delivered("send", ("/x", "~/x"), content, "a", "a!ann", "mysite!12!2026-11-28.10:00:00"))
+        self.assertEqual({"x": "11"}, self.there())
 
 
 class HandedOn(Refused):

@@ -598,6 +598,14 @@ class Numbers(Folder):
             self.put("restored", text)
             self.assertFalse(restored.was_done(self.folder, 1))
 
+    def test_files_of_a_user_are_brought_over_whatever_their_names_are(self) -> None:
+        names = "x.lock", "radio.port", "duke.waits", ".x.new", "7.works", "duke.answer.3"
+        self.assertEqual([(True, False, False)] * len(names), [tuple(restore._wanted(folder, set())(it) for folder in ("notes", "calls", "taylor")) for it in names])
+        its = mock.Mock(_is_same=True)
+        its._source.name = "spool.db"
+        self.assertEqual([True] * len(names), [restore.Restoration._is_carried(its, it) for it in names])
+        self.assertFalse(restore.Restoration._is_carried(its, "spool.db-lock"))
+
     def test_which_notes_of_taylor_are_brought_over(self) -> None:
         wanted, other = restore._wanted("taylor", {3}), restore._wanted("deliver", {3})
         for name, is_taylors, is_others in ("3.json", True, True), ("4.json", False, True), ("begun.json", True, True), ("3.lock", False, False):

@@ -26,13 +26,13 @@ def figures_of(*neighbours: Neighbour, **values: int) -> Figures:
 
 class Gathered(Folder):
     def ask(self, name: str, *words: str, joined: bool = False) -> Ended:
-        texts = {"status": STATUS, "queues": QUEUES}
+        texts = {"status": STATUS, "queues": QUEUES, "list": "7 mysite ann N 2026-11-28 10:00:00 5 exec rmail joe\n"}
         return Ended(0, texts[words[0]].encode(), b"")
 
     def test_figures(self) -> None:
         for path in "spool.db", "spool.db-wal":
             self.put(path, "12345")
-        for path in "refused/1", "refused/2.untold", "refused/3.warned", "refused/.looked", "refused/ab12.file.untold/whole", "refused/12ab.warned", "deliver/7", "deliver/7.lock", "deliver/round":
+        for path in "refused/1", "refused/2.untold", "refused/3.warned", "refused/.looked", "refused/ab12.file.untold/whole", "refused/12ab.warned", "deliver/7", "deliver/8", "deliver/7.lock", "deliver/round":
             self.put(path)
         os.utime(f"{self.folder}/deliver/round", (NOON - 60,) * 2)
         self.put("calls/unc.json", '{"called": %d, "held": true}' % (NOON - 5))

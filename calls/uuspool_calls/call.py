@@ -11,7 +11,7 @@ from . import bundle, carriers, clock, options
 from .contacts import is_fresh
 from .digests import sha256
 from .errors import LATER, NOT_SET_UP, USAGE, Failure, SpoolError, spool_needed
-from .exchange import Neighbour, NotTaken, Taken, finish_moves
+from .exchange import Neighbour, NotTaken, Taken, finish_begun
 from .jobs import Job
 from .processes import Ended, Program
 from .progress import Progress
@@ -149,7 +149,7 @@ class Call:
     def make(self) -> int:
         """Makes the call."""
         self._site.session.processes.catch_stops()
-        finish_moves(self._site, self._order.neighbour)
+        finish_begun(self._site, self._order.neighbour)
         first = self._neighbour.pack(self._order.options())
         if self._is_nothing_new(first):
             return 0
@@ -353,7 +353,7 @@ class JobCall(Call):
         from .taylor import NOT_FOUND, Taylor
 
         self._site.session.processes.catch_stops()
-        finish_moves(self._site, self._order.neighbour)
+        finish_begun(self._site, self._order.neighbour)
         try:
             return self._make(Handover(self._site, self._order.neighbour, Taylor(self._site.session, self._order.neighbour)))
         except Failure as failure:

@@ -17,7 +17,7 @@ from collections.abc import Sequence
 from functools import partial
 
 from . import cli, clock, executions, files, outgoing, pieces, records, refusals, works
-from .delivery import Delivery, Outcome
+from .delivery import Asked, Delivery, Outcome
 from .errors import LATER, USAGE, Delay, Failure, Refusal, SpoolError, spool_needed
 from .jobs import REQUEST, Delivered, Job, Parcel
 from .letters import Mailroom, NotSent
@@ -131,7 +131,8 @@ def _deliver_all(site: Site, deliverer: "Deliverer", numbers: Sequence[int], loc
 
 def _still_working(folder: str) -> int:
     """How many commands of earlier rounds still work."""
-    return sum(works.is_so(f"{folder}/deliver/{name}") for name in files.names_in(f"{folder}/deliver") if name.endswith(_WORKS))
+    of_jobs = [f"{folder}/deliver/{name}" for name in files.names_in(f"{folder}/deliver") if name.endswith(_WORKS)]
+    return sum(map(works.is_so, (*of_jobs, *map(pieces.working_in, pieces.kept_in(f"{folder}/pieces")))))
 
 
 def _delivery(session: Session, deliverer: "Deliverer", number: int) -> Child:
@@ -201,7 +202,8 @@ class Deliverer:
         self._site, self._own = site, site.own
         self._folder = f"{site.folder}/deliver"
         folders, environment = (site.folder, f"{site.folder}/refused"), {**site.environment, "UUSPOOL_HERE": self._own}
-        self._delivery = Delivery(site.session, self._own, folders, environment, self._hand_on, self._is_system, self._find)
+        asked = Asked(self._hand_on, self._is_system, self._find, site.word())
+        self._delivery = Delivery(site.session, self._own, folders, environment, asked)
 
     def run(self, session: Session, words: Sequence[str]) -> int:
         """Tries the jobs with these numbers."""
@@ -211,7 +213,11 @@ class Deliverer:
         """Tries a job, unless it is gone, or another process delivers it. One that hangs delays no
         round."""
         with self._site.lock(f"deliver/{number}{LOCK}") as lock:
-            parcel = self._site.spool.show(number) if lock.take() and lock.is_current() else None
+            if not (lock.take() and lock.is_current()):
+                return 0
+            if not refusals.finish(self._site, number):
+                return LATER
+            parcel = self._site.spool.show(number)
             if parcel is None:
                 return 0
             if parcel.job.system != self._own:
@@ -248,9 +254,6 @@ class Deliverer:
         if job.kind == "request" or (job.kind == "exec" and job.words[0] == REQUEST):
             self._send_file(delivered, job.words[job.kind == "exec" :])
             return Outcome(job.what)
-        if works.is_so(delivered.working):
-            raise Delay(f"{job.words[0]} at {self._own} still works on it, though what began it was ended")
-        works.end_left(delivered.working)
         return self._delivery.deliver(delivered)
 
     def _send_file(self, job: Delivered, words: Sequence[str]) -> None:

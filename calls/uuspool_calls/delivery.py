@@ -1,9 +1,9 @@
 """How one job is delivered at this site. Each word of a stranger goes to its program as one word."""
 import contextlib
-from collections.abc import Callable, Mapping, Sequence
+from collections.abc import Callable, Iterator, Mapping, Sequence
 from functools import partial
 
-from . import commands, envelope, forward, public, works
+from . import commands, envelope, files, forward, public, works
 from .errors import Delay, Refusal
 from .jobs import MAIL, Delivered, Job, Wishes
 from .pieces import COMMAND, File, Piece, Pieces, cannot_be_kept
@@ -14,6 +14,7 @@ from .values import NamedTuple
 
 _MOST_SHOWN = 200  # bytes of what a command prints
 _KILLED = 137
+_PATIENCE = 60  # seconds for another file of the sender to get its name
 
 
 class Outcome(NamedTuple):
@@ -25,31 +26,42 @@ class Outcome(NamedTuple):
     wishes: Wishes = Wishes()
 
 
-HandOn = Callable[[str, Delivered], None]  # queues a command for a system
-IsSystem = Callable[[str], bool]  # whether a name is that of a system
-Find = Callable[[int], Job | None]  # the job of a number, if it waits
+class Asked(NamedTuple):
+    """What a delivery asks of the spool."""
+
+    hand_on: Callable[[str, Delivered], None]  # queues a command for a system
+    is_system: Callable[[str], bool]  # whether a name is that of a system
+    find: Callable[[int], Job | None]  # the job of a number, if it waits
+    word: str  # which another spool doesn't have
 
 
 class Delivery:
     """Delivers jobs at a site, from the folder in which it works. What is refused of files that come in pieces goes to
     another one. Mail that was too large for the spool to hand on is handed on here."""
 
-    def __init__(self, session: Session, own: str, folders: tuple[str, str], environment: Mapping[str, str], hand_on: HandOn, is_system: IsSystem, find: Find) -> None:
-        self._session, self._own, self._environment = session, own, environment
+    def __init__(self, session: Session, own: str, folders: tuple[str, str], environment: Mapping[str, str], asked: Asked) -> None:
+        self._session, self._own, self._environment, self._asked = session, own, environment, asked
         self._folder, self._refused = folders
-        self._hand_on, self._is_system, self._find = hand_on, is_system, find
         self._limit = session.command_limit
 
     def deliver(self, job: Delivered) -> Outcome:
         """Delivers a job. Refusal if it never can be delivered, Delay if it can't be now."""
+        self._expect_at_rest(job)
         self._expect_allowed(job)
         if job.words[0] == COMMAND and job.kind == "exec":
             return self._take_piece(job)
         if job.kind == "exec":
             self._run(job)
             return Outcome(job.what)
-        put = self.public_of(job.sender).put(job.words[1], job.content)
+        put = self.public_of(job.sender).put(job.words[1], job.content, partial(self._is_newest, job))
         return Outcome(job.what + _other(job.words[1], put), wishes=Wishes.read(job.words[2:]))
+
+    def _expect_at_rest(self, job: Delivered) -> None:
+        """Delay if a command works on a job, though what began it is gone. What that left of it is ended."""
+        if job.working:
+            if works.is_so(job.working):
+                raise Delay(f"{job.words[0]} at {self._own} still works on it, though what began it was ended")
+            works.end_left(job.working)
 
     def _expect_allowed(self, job: Delivered) -> None:
         """Refusal of what no bytes can change. So a file is refused with its first piece."""
@@ -76,7 +88,7 @@ class Delivery:
     def _expect_of_nobody(self, path: str) -> None:
         """Refusal of a file of this site's users where those of a neighbour are to come."""
         first = path.removeprefix("~/").split("/")[0]
-        if first != self._own and is_name(first) and self._is_system(first):
+        if first != self._own and is_name(first) and self._asked.is_system(first):
             raise Refusal(f"{path} is where files of {first} come to {self._own}, and no others")
 
     def _expect_forwarded(self, sender: str, addresses: Sequence[str]) -> None:
@@ -87,6 +99,23 @@ class Delivery:
         """The public folder for a sender."""
         common = self._environment.get("UUSPOOL_PUBLIC", "")
         return public.find(common, f"{self._session.etc}/public", sender, self._own)
+
+    @contextlib.contextmanager
+    def _is_newest(self, job: Delivered, name: str) -> Iterator[bool]:
+        """Whether no newer job of the sender put a file of this name. No other one puts a file meanwhile."""
+        from . import newest  # (which few jobs need)
+
+        sender = job.sender or self._own
+        path = f"{self._folder}/deliver/.{sender}.files"
+        with contextlib.ExitStack() as held:
+            try:
+                lock = held.enter_context(files.Lock(f"{path}.lock"))
+                if not lock.wait(_PATIENCE, self._session.processes.pause):
+                    raise Delay(f"{name} waits at {self._own} for another file of {sender}")
+                is_newest = newest.note(path, self._asked.word, name, job.number)
+            except OSError as error:
+                raise Delay(f"{name} waits at {self._own}, because {path} cannot be written: {error.strerror}") from None
+            yield is_newest
 
     def _pieces_of(self, job: Delivered) -> Pieces:
         folder = f"{self._folder}/pieces/{job.sender or self._own}"
@@ -106,8 +135,8 @@ class Delivery:
         """Keeps a piece. With the last one the whole is delivered as a job of its own, once, even after a stop."""
         piece = _piece(job)
         kind, *words = piece.words
-        whole = job._replace(kind=kind, words=tuple(words))
         with self._held(job) as file:
+            whole = job._replace(kind=kind, words=tuple(words), working=file.working, first=file.about.job)
             if file.about.came_with(job.name):
                 return Outcome(file.about.what, is_last=True, wishes=Wishes.read(words[2:] if kind == "send" else ()))
             if file.about.came:
@@ -133,7 +162,7 @@ class Delivery:
 
         A command doesn't begin if there is no room for the note that it ended, or it would run again."""
         begun = file.begun_with()
-        other = self._find(int(begun.split("!")[1])) if begun else None
+        other = self._asked.find(int(begun.split("!")[1])) if begun else None
         its = Piece.of(other) if other else None
         if other and its and its.name(other.user) == _piece(job).name(job.user):
             return begun
@@ -180,7 +209,7 @@ class Delivery:
             if odd := next((word for word in rest if word.startswith("-")), None):
                 raise Refusal(f"{odd}, which is no user of {hop}, would be an option there")
             with envelope.handed_on(job, self._own, self._folder) as content:
-                self._hand_on(hop, job._replace(words=(name, *rest), content=content))
+                self._asked.hand_on(hop, job._replace(words=(name, *rest), content=content))
             return
         environment = {**self._environment, **job.environment(), "UUSPOOL_USER": _user_of(job)}
         path = f"{self._session.etc}/commands"

@@ -15,6 +15,7 @@ _MOST_DOUBLINGS = 10
 _MOST_NUMBERS = 2048  # that jobs get anew in one call
 _NEVER_TAKEN = ("NoBundle", "OtherSender", "OtherSite", "NotSealed", "WrongKey")  # what the program calls such a text
 _MOST_DIGITS = 20  # of a number of jobs
+_WAITING = ".waiting.untold"  # ends the name of what is kept of a job that is refused and not removed yet
 _MOST_WAITING = 5000  # jobs of a neighbour that wait here, above which no more are taken
 
 
@@ -53,14 +54,20 @@ class Taken:
         return len(self.settled.done) + self.requeued + self.removed > 0
 
 
-def finish_moves(site: Site, neighbour: str) -> bool:
-    """Finishes the moves of jobs from and to a neighbour. Whether some were left."""
-    if not files.names_in(f"{site.folder}/moves"):
-        return False
-    from . import moves
+def finish_begun(site: Site, neighbour: str) -> bool:
+    """Finishes the moves of jobs from and to a neighbour, and what was begun to be refused. Whether some were left."""
+    has_moves = bool(files.names_in(f"{site.folder}/moves"))
+    has_refused = any(name.endswith(_WAITING) for name in files.names_in(f"{site.folder}/refused"))
+    if has_moves:
+        from . import moves
 
-    moves.finish_all(site, neighbour)
-    return True
+        moves.finish_all(site, neighbour)
+    if has_refused:
+        from . import refusals
+
+        if not refusals.finish(site):
+            raise Failure(LATER, f"nothing goes to {neighbour} while a job that is refused cannot be removed from the spool")
+    return has_moves or has_refused
 
 
 def expect_size(neighbour: str, text: bytes) -> None:
@@ -96,7 +103,7 @@ class Neighbour:
     def reply_to(self, text: bytes, taken: Taken) -> bytes:
         """The bundle that answers a call, of which the caller's was taken. Before this, what the caller says that it has is
         settled. Otherwise it would get it again."""
-        if finish_moves(self._site, self._name):
+        if finish_begun(self._site, self._name):
             taken.reply = b""
         settled, jobs = len(taken.settled.done), taken.unpacked.jobs
         self._site.log.note(self._name, "", "", "answered", f"{jobs} jobs came, {settled} of ours are there")

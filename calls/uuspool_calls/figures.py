@@ -1,4 +1,5 @@
 """What an operator watches: what waits for each neighbour and for this site, how calls went, and what room is left."""
+import contextlib
 import os
 from collections.abc import Callable
 
@@ -84,9 +85,14 @@ def gather(found: Settings, ask: _Ask, owner: str = "") -> Figures:
     status, queues = _lines(ask, "status"), _lines(ask, "queues")
     try:
         with acting_as(owner):
-            return _figures(found, status, queues)
+            figures = _figures(found, status, queues)
+            tried = {name for name in files.names_in(f"{found.folder}/deliver") if name.isdecimal()}
     except (ValueError, OverflowError):
         raise Failure(LATER, _ODD) from None
+    if tried:  # (The record of a job that is gone stays for a while. If the list can't be had, those count, too.)
+        with contextlib.suppress(Failure):
+            tried &= {words[0] for words in _lines(ask, "list", f"-s{found.name}")}
+    return figures._replace(delayed=len(tried))
 
 
 def _figures(found: Settings, status: list[list[str]], queues: list[list[str]]) -> Figures:
@@ -101,7 +107,6 @@ def _figures(found: Settings, status: list[list[str]], queues: list[list[str]]) 
         found.name,
         clock.now(),
         tuple(neighbours[name] for name in sorted(neighbours)),
-        delayed=sum(name.isdecimal() for name in files.names_in(f"{found.folder}/deliver")),
         refused=len(kept),
         untold=sum(name.endswith(_UNTOLD) for name in kept),
         spool=sum(its.st_size for end in ("", "-wal") if (its := files.look(f"{found.spool}{end}"))),
@@ -112,8 +117,8 @@ def _figures(found: Settings, status: list[list[str]], queues: list[list[str]]) 
     )
 
 
-def _lines(ask: _Ask, subcommand: str) -> list[list[str]]:
-    ended = ask("uuspool", subcommand, joined=True)
+def _lines(ask: _Ask, *line: str) -> list[list[str]]:
+    ended = ask("uuspool", *line, joined=True)
     if ended.status:
         raise Failure(LATER, f"the spool cannot be asked: {one_line(ended.output)}")
     return named(ended.output)

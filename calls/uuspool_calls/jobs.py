@@ -95,11 +95,17 @@ class Delivered(NamedTuple):
     name: str  # the same if it comes again
     grade: str = "N"
     working: str = ""  # the file that says which process delivers it, if it is tried again
+    first: str = ""  # the name of the job that brought its first piece, if it came in pieces and that is known
 
     @property
     def what(self) -> str:
         """What is to be done."""
         return " ".join((self.kind, *self.words))
+
+    @property
+    def number(self) -> int:
+        """By which it is older or newer than another one. (A first piece may have come to a spool that was there before.)"""
+        return min(int(name.split("!")[1]) for name in (self.name, self.first) if name)
 
     @property
     def moment(self) -> str:

@@ -17,6 +17,7 @@ _LIMIT = 60  # seconds for the mailer
 PAUSE = 600  # seconds until a mailer that took no letter is asked again, by what is done each minute
 _MOST_WAITING = 1000  # letters for a neighbour, above which no more are written to it
 _MOST_NOTED = 1 << 16  # bytes of their numbers, of which the last are those that wait
+_FORGOTTEN = "refused Stale"  # what the spool says of a key that it has forgotten
 _SHOWN_BYTES, _SHOWN_LINES, _SHOWN_JOBS = 2000, 20, 100
 
 
@@ -114,19 +115,28 @@ class Mailroom:
 
     def _queue(self, user: str, text: bytes, key: str) -> bool:
         self._site.will_forget_keys()
-        spool, system = self._site.spool, user.partition("!")[0]
+        system = user.partition("!")[0]
         try:
             if self._has_many(system):
                 self._site.log.note(system, user, "", "not-told", f"{_MOST_WAITING} letters wait for {system}")
                 return True
-            if key:
-                answer = spool.ask(f"--as={_FROM}", "mail", f"--once={key}", "--", user, given=text)
-            else:
-                answer = spool.ask_once(f"--as={_FROM}", "mail", "--", user, given=text).decode()
+            answer = self._ask(user, text, key)
         except SpoolError:
             return False
         self._note(system, answer)
         return True
+
+    def _ask(self, user: str, text: bytes, key: str) -> str:
+        """Queues a letter, once if it has a key. If the spool has forgotten the keys of that job, the letter goes without one: after
+        a kill it may come twice, which is better than never."""
+        spool = self._site.spool
+        if key:
+            try:
+                return spool.ask(f"--as={_FROM}", "mail", f"--once={key}", "--", user, given=text)
+            except SpoolError as error:
+                if str(error) != _FORGOTTEN:
+                    raise
+        return spool.ask_once(f"--as={_FROM}", "mail", "--", user, given=text).decode()
 
     def _has_many(self, system: str) -> bool:
         """Whether so many letters wait for a neighbour that it hears of no more jobs, since it may have them made without end."""

@@ -9,7 +9,7 @@ Mail is addressed on, from the new neighbour to the old one, so it arrives at it
 are kept, for a neighbour that now does what the old one did."""
 from collections.abc import Sequence
 
-from . import moves
+from . import moves, refusals
 from .errors import LATER, USAGE, Failure, spool_needed
 from .jobs import MAIL, Job
 from .pieces import name_of
@@ -39,6 +39,8 @@ def run(session: Session, words: Sequence[str]) -> int:
         if not lock.wait(_PATIENCE, session.processes.pause):
             raise Failure(LATER, f"{origin} is being called by another process")
         moves.finish_all(site)
+        if not refusals.finish(site):
+            raise Failure(LATER, "nothing is moved while a job that is refused cannot be removed from the spool")
         chosen, parts = _chosen(site, origin, set(map(int, numbers)))
         for whole in chosen:
             _move(site, whole, target, whole.job.words if keeps else addressed_on(whole.job, origin))

@@ -32,6 +32,7 @@ _FREE = 20  # a part of the disk stays free of pieces: one of so many
 _MOST_DIGITS = 18  # of a size or a place
 _MOST_OF_A_MARK = 64
 _ABOUT, _WHOLE = "about", "whole"
+_WORKS = "works"  # says which process works on the whole
 _CAME = "came"  # becomes _ABOUT once the whole is delivered, if the disk is full then
 
 IsOld = Callable[[str, int], bool]  # whether what a path names lies unchanged for so many days
@@ -187,6 +188,7 @@ class File:
 
     def __init__(self, folder: str, about: About, is_refused: bool = False) -> None:
         self.folder, self.about, self.is_refused = folder, about, is_refused
+        self.working = working_in(folder)
 
     def take(self, piece: Piece, content: int) -> None:
         """Keeps a piece. Refusal if it can be none of this file."""
@@ -377,6 +379,11 @@ def _expect_room(folder: str) -> None:
 def cannot_be_kept(piece: Piece, folder: str, error: OSError) -> Delay:
     """Why a piece waits."""
     return Delay(f"{piece.place} of {piece.words[-1]} cannot be kept below {folder}: {error.strerror}")
+
+
+def working_in(folder: str) -> str:
+    """The file that says which process works on the whole of a folder, whichever piece it began with."""
+    return f"{folder}/{_WORKS}"
 
 
 def kept_in(folder: str) -> list[str]:

@@ -32,6 +32,8 @@ _NEW = ".new."  # begins the name of a file that gets its own when it is whole
 _LEFT = 86400  # seconds after which such a file is what a kill left
 _BLOCK = 1 << 20
 
+IsNewest = Callable[[str], contextlib.AbstractContextManager[bool]]  # whether no newer file of a name came; none comes meanwhile
+
 
 def find(environment_folder: str, table: str, neighbour: str, own: str) -> "Public":
     """The public folder as a neighbour has it, or this site itself, if there is none: that of its last line in a
@@ -116,26 +118,27 @@ def expect_inside(path: str, own: str) -> None:
 
 class Public:
     """The public folder of this site as one sender has it. Its files come to a folder of its name there, if it
-    is a neighbour that shares the public folder. If it is alone where its files come, a new file of it replaces
-    an old one."""
+    is a neighbour that shares the public folder. If it is alone where its files come, a newer file of it replaces
+    an older one."""
 
     def __init__(self, folder: str, own: str, neighbour: str = "", is_alone: bool = False, others: Sequence[str] = ()) -> None:
         self._folder, self._own, self._neighbour = folder, own, neighbour
         self._others = others  # where files of other neighbours come
         self._is_alone = is_alone or bool(neighbour)
 
-    def put(self, path: str, content: int) -> str:
+    def put(self, path: str, content: int, is_newest: IsNewest = lambda name: contextlib.nullcontext(True)) -> str:
         """Writes the bytes of an open file to a path, or to one with a number, and says to which. The file, and
-        each missing folder on the way, are on the disk before this ends."""
+        each missing folder on the way, are on the disk before this ends. It replaces none that is newer than it."""
         expect_inside(path, self._own)
-        *folders, name = path.removeprefix("~/").split("/")
+        below = path.removeprefix("~/")
+        *folders, name = below.split("/")
         try:
             with self._place() as at, contextlib.ExitStack() as on_the_way:
                 for folder in folders:
                     at = on_the_way.enter_context(_entered(at, folder))
                     self._expect_ours(at, path)
-                with _New(at, content) as new:
-                    named = new.take(name, self._is_alone)
+                with _New(at, content) as new, is_newest(below) if self._is_alone else contextlib.nullcontext(False) as replaces:
+                    named = new.take(name, replaces)
         except _LeadsOut:
             raise Refusal(f"{path} is a folder, or leads out of the public folder of {self._own}") from None
         except OSError as error:

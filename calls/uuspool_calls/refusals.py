@@ -3,13 +3,13 @@ two steps leaves the job, and the rest is done again.
 
 A job that is refused for good is kept in one file below refused/: a line with the reason, and what `show` prints. A
 file that came in pieces is kept in a folder, whose name ends with `.file`. While nobody was told, the name ends with
-`.untold`. Who has many jobs refused gets one letter about them. Old ones are removed, and the oldest of a sender
+`.untold`, and while the job isn't removed yet, with `.waiting.untold`: whoever tells, calls or delivers removes it first. Who has many jobs refused gets one letter about them. Old ones are removed, and the oldest of a sender
 whose jobs take too much room."""
 import collections
 import contextlib
 import itertools
 import os
-from collections.abc import Iterator, Sequence
+from collections.abc import Iterable, Iterator, Sequence
 
 from . import files, pieces
 from .errors import LATER, SpoolError
@@ -20,6 +20,8 @@ from .site import Site
 from .texts import printable
 from .values import NamedTuple
 
+WAITING = f".waiting{UNTOLD}"  # ends the name of what is kept while its job may wait in the spool
+_ALONE = f".alone{WAITING}"  # likewise, if no other piece of its file is refused with it
 _MOST_LETTERS = 20  # to one local user, or to one neighbour, at a time
 _LOOKED = ".looked"  # when it was looked at how old things are
 _SEEN = ".seen"  # what was seen then
@@ -57,53 +59,109 @@ class Refuser:
     def refuse(self, parcel: Parcel, why: str, is_kept: bool = False) -> bool:
         """Refuses a job, and the other pieces of its file that wait with it, unless it is kept already. If one can't be
         refused now it waits, and this says so."""
-        if is_kept or pieces.Piece.of(parcel.job) is None:
-            return self._refuse(parcel, why, is_kept)
+        if is_kept:
+            return self._remove(parcel.job, printable(why[:500]))
+        if pieces.Piece.of(parcel.job) is None:
+            return self._refuse([parcel], why)
         try:
-            jobs = pieces.together(parcel.job, self._site.spool.waiting(parcel.job.system))
+            waiting = self._site.spool.waiting(parcel.job.system)
         except SpoolError as error:
             return self._waits(parcel.job.number, str(error))
-        shown = (self._site.spool.show(it.number) for it in jobs)
-        return all([self._refuse(it, why, is_kept) for it in shown if it])
+        _, *others = pieces.together(parcel.job, waiting)
+        is_there = any(it.number == parcel.job.number for it in waiting)
+        shown = (self._site.spool.show(it.number) for it in others)
+        return self._refuse(itertools.chain([parcel] if is_there else [], shown), why)
 
     def refuse_alone(self, parcel: Parcel, why: str) -> bool:
         """Refuses a job, and no other piece of its file."""
-        return self._refuse(parcel, why, is_kept=False)
+        return self._refuse([parcel], why, _ALONE)
 
-    def _refuse(self, parcel: Parcel, why: str, is_kept: bool) -> bool:
-        reason, job = printable(why[:500]), parcel.job
+    def _refuse(self, parcels: Iterable[Parcel | None], why: str, end: str = WAITING) -> bool:
+        """Each is kept before the first one is removed, so a stop leaves no piece of a file of which nobody knows that it is
+        refused."""
+        reason = printable(why[:500])
+        kept = [(it.job, self._kept(it, reason, end)) for it in parcels if it]
+        return all([path != "" and self._remove(job, reason, path, end) for job, path in kept])
+
+    def _kept(self, parcel: Parcel, reason: str, end: str) -> str:
+        """The path of what is kept of a job, or nothing if that can't be."""
         try:
-            if not is_kept:
-                self._keep(parcel, reason, str(job.number))
-            self._site.spool.kill(job)
+            return self._keep(parcel, reason, str(parcel.job.number), end)
         except OSError as error:
-            return self._waits(job.number, f"it cannot be kept below {self._site.folder}/refused: {error.strerror}")
+            self._waits(parcel.job.number, f"it cannot be kept below {self._site.folder}/refused: {error.strerror}")
+        return ""
+
+    def _remove(self, job: Job, reason: str, path: str = "", end: str = "") -> bool:
+        """Removes a job that is kept. Now its user may be told."""
+        try:
+            self._site.spool.kill(job)
         except SpoolError as error:
             return self._waits(job.number, str(error))
         self._site.log.note(job.system, job.user, job.number, "refused-for-good", reason)
+        if path:
+            with contextlib.suppress(FileNotFoundError):  # (unless another process did so meanwhile)
+                os.rename(f"{path}{end}", f"{path}{UNTOLD}")
         return True
 
     def keep(self, parcel: Parcel, why: str, name: str) -> None:
         """Keeps what is no job of the spool, and so has the number 0, so that its user is told. No other one has such a name."""
-        self._keep(parcel, printable(why[:500]), f"{parcel.job.number}.{name}")
+        self._keep(parcel, printable(why[:500]), f"{parcel.job.number}.{name}", UNTOLD)
 
     def _waits(self, number: int, why: str) -> bool:
         self._site.session.say(f"job {number} cannot be refused now, and waits: {why}")
         return False
 
-    def _keep(self, parcel: Parcel, reason: str, name: str) -> None:
+    def _keep(self, parcel: Parcel, reason: str, name: str, end: str) -> str:
         """The same job is one file, and no other file is overwritten: a spool that was made anew gives its
-        numbers again."""
+        numbers again. The path of the file, without the end of its name."""
         first = f"{self._site.folder}/refused/{name}"
         for copy in itertools.count(1):
             path = f"{first}.{copy}" if copy > 1 else first
-            there = [it for it in (path, f"{path}{UNTOLD}") if os.path.lexists(it)]
+            there = [it for end_of_one in ("", UNTOLD, WAITING, _ALONE) if os.path.lexists(it := f"{path}{end_of_one}")]
             most = len(parcel.text) + _MOST_OF_A_LINE
             if any((files.read_bytes(it, most) or b"").partition(b"\n")[2] == parcel.text for it in there):
-                return
+                return path
             if not there:
-                files.replace(f"{path}{UNTOLD}", f"{reason}\n".encode() + parcel.text)
-                return
+                files.replace(f"{path}{end}", f"{reason}\n".encode() + parcel.text)
+                return path
+        raise AssertionError("there is no last number")
+
+
+def finish(site: Site, number: int | None = None) -> bool:
+    """Removes the jobs that are kept, and that a stop left in the spool, or the one of this number. Otherwise they would go,
+    though their users are told that they are refused. Whether none of them waits any more."""
+    found = [it for it in files.names_in(f"{site.folder}/refused") if it.endswith(WAITING) and number in (None, _number_in(it))]
+    return all([_finish(site, f"{site.folder}/refused/{name}") for name in found])
+
+
+def _number_in(name: str) -> int | None:
+    number = name.partition(".")[0]
+    return int(number) if number.isdecimal() else None
+
+
+def _finish(site: Site, path: str) -> bool:
+    reason, _, text = (files.read_bytes(path) or b"").partition(b"\n")
+    try:
+        parcel = Parcel.read(text)
+    except ValueError:
+        return True  # (Nobody is told of it.)
+    there, refuser = site.spool.show(parcel.job.number), Refuser(site)
+    if there and _is_same(there, parcel):
+        why = reason.decode(errors="replace")
+        if path.endswith(_ALONE):
+            refuser.refuse_alone(parcel, why)
+        else:
+            refuser.refuse(parcel, why)
+        return not os.path.lexists(path)
+    with contextlib.suppress(FileNotFoundError):
+        os.rename(path, path.removesuffix(_ALONE).removesuffix(WAITING) + UNTOLD)
+    return True
+
+
+def _is_same(one: Parcel, other: Parcel) -> bool:
+    """Whether both are one job. (Its grade, and its moment as the site's clock shows it, may have changed.)"""
+    first, second = (it.job._replace(grade="", day="", hour="", line="") for it in (one, other))
+    return first == second and one.data == other.data
 
 
 class Kept(NamedTuple):
@@ -162,6 +220,7 @@ def tell(site: Site, at_once: bool = True) -> int:
     with site.lock("refused/.lock") as lock:
         if not lock.take():
             return 0
+        status = 0 if finish(site) else LATER
         if not at_once and files.is_fresh(failed, PAUSE) and has_untold(site):
             site.session.say(f"letters about refused jobs wait, because the mailer took none: it is asked again after {PAUSE // 60} minutes")
             return LATER
@@ -170,7 +229,7 @@ def tell(site: Site, at_once: bool = True) -> int:
             groups[kept.who].append(kept)
         if all([_tell(site, group) for group in groups.values()]):
             files.remove(failed)
-            return 0
+            return status
         files.touch_if_possible(failed)
     return LATER
 
@@ -183,7 +242,7 @@ def has_untold(site: Site) -> bool:
 def _untold(site: Site) -> Iterator[Kept]:
     for name in files.names_in(f"{site.folder}/refused"):
         path = f"{site.folder}/refused/{name}"
-        if name.endswith(UNTOLD) and (kept := Kept.read(path)):
+        if name.endswith(UNTOLD) and not name.endswith(WAITING) and (kept := Kept.read(path)):
             yield kept
 
 

@@ -24,7 +24,7 @@ from .processes import Ended, Program
 from .session import Session, acting_as, user_name
 from .settings import Settings
 from .site import find_from_anywhere, owner_of
-from .source import BESIDE, MOST_OF_A_TEXT, Source, is_kept
+from .source import BESIDE, MOST_OF_A_TEXT, OURS, Source, is_kept
 from .spool import answers_in
 from .texts import is_number, one_line
 from .values import NamedTuple
@@ -341,7 +341,7 @@ class Restoration:
 
     def _is_carried(self, name: str) -> bool:
         is_spools = name.removeprefix(self._source.name) in _ENDS or name == restored.NAME
-        return is_kept(name) and not is_spools and (self._is_same or name not in BESIDE)
+        return not is_spools and (self._is_same or name not in BESIDE)
 
     def _carry(self, name: str, made: Target, copier: Copier, known: Collection[int]) -> None:
         path, seen = f"{self._place.path}/{name}", files.look(name, self._place.handle, follows=False)
@@ -401,7 +401,8 @@ def _wanted(folder: str, known: Collection[int]) -> Callable[[str], bool]:
 
     def is_wanted(name: str) -> bool:
         number = name.removesuffix(".json")
-        return is_kept(name) and (folder != "taylor" or not number.isdecimal() or int(number) in known)
+        is_users = folder not in OURS
+        return is_users or (is_kept(name) and (folder != "taylor" or not number.isdecimal() or int(number) in known))
 
     return is_wanted
 

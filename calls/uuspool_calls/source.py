@@ -13,6 +13,7 @@ from .settings import Settings
 
 MARK = "copied"  # a file of the copy, which has the word by which the log says where it was made
 BESIDE = ("calls", "deliver", "refused", "moves", "pieces")  # the folders of a copy that are kept beside the spool
+OURS = (*BESIDE, "taylor")  # the folders beside the spool whose names this package gives
 _LOCKS = re.compile(r".*(\.lock|\.works|\.port|\.waits|\.answer\.[0-9]+)\Z|\..*\.new\Z", re.S)
 _FOLDER = os.O_RDONLY | os.O_DIRECTORY | os.O_CLOEXEC
 _OTHERS_WRITE = 0o022
@@ -21,7 +22,7 @@ MOST_OF_A_TEXT = 1 << 17  # bytes of a small file beside the spool
 
 
 def is_kept(name: str) -> bool:
-    """Whether a file beside the spool says something. Locks don't, nor do files that are being written."""
+    """Whether a file in one of these folders says something. Locks don't, nor do files that are being written."""
     return _LOCKS.match(name) is None
 
 

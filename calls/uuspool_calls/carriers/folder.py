@@ -1,6 +1,6 @@
 """folder SYSTEM FOLDER [PROGRAM]: a stick, a mount or a folder that a program syncs. It writes HERE-SYSTEM.bundle
 there, whole, instead of the last one, and prints SYSTEM-HERE.bundle if it is there. What doesn't fit into one bundle
-is in HERE-SYSTEM.2.bundle and so on.
+is in HERE-SYSTEM.bundle.2 and so on: a system may be called duke.2.
 
 All of them stay there: a bundle that is read twice changes nothing, and what the last one brought is said in the
 next. PROGRAM may seal them: `PROGRAM seal SYSTEM` and `PROGRAM open SYSTEM` are filters. What `open` prints is used
@@ -142,10 +142,10 @@ class Exchange:
         return 0
 
     def _ours(self, number: int) -> str:
-        return f"{self._here}-{self._system}{f'.{number}' if number > 1 else ''}.bundle"
+        return f"{self._here}-{self._system}.bundle{_numbered(number)}"
 
     def _theirs(self, number: int) -> str:
-        return f"{self._system}-{self._here}{f'.{number}' if number > 1 else ''}.bundle"
+        return f"{self._system}-{self._here}.bundle{_numbered(number)}"
 
     def _take_others(self) -> int:
         """Takes what the neighbour has besides its first bundle, and counts it."""
@@ -183,3 +183,7 @@ class Exchange:
             self._folder.put(self._ours(count), self._pack("--no-jobs"))
         while self._folder.remove(self._ours(count + 1)):
             count += 1
+
+
+def _numbered(number: int) -> str:
+    return f".{number}" if number > 1 else ""

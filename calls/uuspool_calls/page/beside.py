@@ -8,7 +8,7 @@ from typing import NamedTuple
 
 from ..files import names_in, read_end
 from ..pieces import FILE, UNTOLD
-from ..refusals import Kept, newest_first
+from ..refusals import WAITING, Kept, newest_first
 from .times import HOUR, MINUTE
 
 _READ_LOG = 4 << 20  # bytes of a log, from its end
@@ -122,5 +122,5 @@ def refused_in(folder: str) -> Iterator[Sequence[str]]:
 
 def _number_of(kept: Kept) -> str:
     """The name of what is kept, which is a number. A file that came in pieces has that of its first piece, if it is known."""
-    name = os.path.basename(kept.path).removesuffix(UNTOLD)
+    name = os.path.basename(kept.path).removesuffix(WAITING).removesuffix(UNTOLD)
     return name if not name.endswith(FILE) else str(kept.number or "-")
