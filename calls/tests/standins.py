@@ -197,7 +197,7 @@ class Mailer(Processes):
 
 def site(folder: str, spool: StandIn, **variables: str) -> Site:
     """A site in a folder, whose own name is `mysite`, and whose spool has the word `w1`."""
-    for name in "calls", "deliver", "refused":
+    for name in "calls", "deliver", "moves", "refused":
         os.makedirs(f"{folder}/{name}", exist_ok=True)
     with open(f"{folder}/spool.db-word", "w", encoding="ascii") as file:
         file.write("w1\n")

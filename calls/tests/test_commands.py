@@ -549,7 +549,7 @@ class Entering(Folder):
         os.mkdir(f"{self.folder}/s")
         entered = enter(Quiet(self.folder))
         self.assertIsInstance(entered, Site)
-        self.assertEqual(["calls", "deliver", "refused"], sorted(os.listdir(f"{self.folder}/s")))
+        self.assertEqual(["calls", "deliver", "moves", "refused"], sorted(os.listdir(f"{self.folder}/s")))
         self.assertEqual(self.folder, entered.environment["UUSPOOL_DIR"])
 
     def test_a_folder_of_somebody_else(self) -> None:

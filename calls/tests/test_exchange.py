@@ -8,7 +8,7 @@ import signal
 import time
 from unittest import mock
 
-from uuspool_calls import moves, works
+from uuspool_calls import files, moves, works
 from uuspool_calls.errors import Failure, SpoolError, Stopped
 from uuspool_calls.exchange import Neighbour, NoBundle, NotTaken, expect_size, finish_begun
 from uuspool_calls.jobs import Job, Parcel
@@ -38,6 +38,23 @@ class Taking(Folder):
         self.assertEqual([("settle", "duke"), ("unpack", "duke", "unc")], self.spool.asked)
         self.assertEqual((True, True, 1), (taken.moves_jobs, taken.makes_room, taken.unpacked.unwanted))
         self.assertEqual("the sys file here has to define mysite, this site's own name, and unc", taken.own_fault)
+
+    def test_what_moves_is_finished_before_the_neighbour_says_what_it_has(self) -> None:
+        """Otherwise it would have some pieces of a file, and another one the rest."""
+        lines = [LINE.replace("7", str(number), 1).replace(" 5 ", " 1000 ").replace("rmail", f"{FILE} {at} exec rmail") for number, at in ((3, 0), (4, 1000), (5, 2000))]
+        self.spool.parcels = {it.job.number: it for it in (parcel(line, bytes(1000)) for line in lines)}
+        [whole] = Whole.all_of(self.spool.waiting("duke"))
+        self.spool.fails = {"kill": SpoolError(3, "uuspool: spool: store")}
+        self.assertRaises(moves.HalfMoved, moves.move, self.site, whole, "unc", ["rmail", "joe"])
+        self.spool.fails, self.spool.asked = {}, []
+        self.neighbour.take(TEXT)
+        self.assertEqual(["queue", "kill"] * 3 + ["settle", "unpack"], [it[0] for it in self.spool.asked])
+
+    def test_no_move_begins_while_the_neighbour_says_what_it_has(self) -> None:
+        with files.Lock(f"{self.folder}/moves/duke.lock") as lock, mock.patch("uuspool_calls.exchange._PATIENCE", 0):
+            self.assertTrue(lock.take())
+            self.assertRaisesRegex(Failure, "jobs of duke are being moved by another process", self.neighbour.take, TEXT)
+            self.assertEqual(("unpack", "duke", "unc"), (self.neighbour.take(b"bundle\nend\n"), self.spool.asked[-1])[1])
 
     def test_what_answers_a_call(self) -> None:
         ask, job = b"bundle duke mysite - 1 z 8784095817163137413\n", b"job 1 5 N ann 1 send a b\nx\n"

@@ -37,7 +37,7 @@ _ROUND = 300  # seconds after which a round begins no more deliveries
 _AT_A_LOOK = 64  # deliveries, after which it is looked again how much was refused
 _MOST_FETCHED = 64  # MiB that wait for a neighbour, above which it fetches nothing more
 _MOST_JOBS = 5000  # that wait for it
-_PATIENCE = 5  # seconds for another file that it fetches
+_PATIENCE = 30  # seconds for another file that it fetches
 
 
 def run(session: Session, words: Sequence[str]) -> int:

@@ -16,6 +16,7 @@ _MOST_NUMBERS = 2048  # that jobs get anew in one call
 _NEVER_TAKEN = ("NoBundle", "OtherSender", "OtherSite", "NotSealed", "WrongKey")  # what the program calls such a text
 _MOST_DIGITS = 20  # of a number of jobs
 _WAITING = ".waiting.untold"  # ends the name of what is kept of a job that is refused and not removed yet
+_PATIENCE = 10  # seconds for a move of jobs
 _MOST_WAITING = 5000  # jobs of a neighbour that wait here, above which no more are taken
 
 
@@ -56,7 +57,7 @@ class Taken:
 
 def finish_begun(site: Site, neighbour: str) -> bool:
     """Finishes the moves of jobs from and to a neighbour, and what was begun to be refused. Whether some were left."""
-    has_moves = bool(files.names_in(f"{site.folder}/moves"))
+    has_moves = any(map(str.isdecimal, files.names_in(f"{site.folder}/moves")))
     has_refused = any(name.endswith(_WAITING) for name in files.names_in(f"{site.folder}/refused"))
     if has_moves:
         from . import moves
@@ -145,7 +146,7 @@ class Neighbour:
         try:
             later = self._looks_for_room() if bundle.has_line(text, b"job") else ""
             says = later or bundle.has_line(text, b"has", b"no")  # (or its sender is looked at, before it is answered)
-            settled = self._site.spool.settle(self._name, text) if says else Settled((), ())
+            settled = self._settle(text) if says else Settled((), ())
             unpacked = (Unpacked(0, ()), b"") if later else self._unpack(text, replies and not settled.refused)
             taken = Taken(settled, *unpacked, later)
         except SpoolError as error:
@@ -156,6 +157,15 @@ class Neighbour:
             taken.own_fault = f"the sys file here has to define {self._site.own}, this site's own name{others}"
         self._heed_refusals(taken)
         return taken
+
+    def _settle(self, text: bytes) -> Settled:
+        """Removes our jobs that the neighbour has. What moves to another one goes before that, and no move begins meanwhile: if the neighbour
+        has some pieces of a file, the others must not be elsewhere without these."""
+        with self._site.lock(f"moves/{self._name}.lock") as lock:
+            if not lock.wait(_PATIENCE, self._site.session.processes.pause):
+                raise Failure(LATER, f"jobs of {self._name} are being moved by another process")
+            finish_begun(self._site, self._name)
+            return self._site.spool.settle(self._name, text)
 
     def _unpack(self, text: bytes, replies: bool) -> tuple[Unpacked, bytes]:
         """Queues the jobs of a bundle. If it has none, our reply may be made at once."""

@@ -34,10 +34,12 @@ def run(session: Session, words: Sequence[str]) -> int:
     site = enter(session)
     _expect_neighbour(site, origin, target)
     session.processes.catch_stops()
-    with site.lock(f"calls/{origin}.lock") as lock:
-        # (A call of this neighbour that is under way may bring it such a job.)
-        if not lock.wait(_PATIENCE, session.processes.pause):
+    with site.lock(f"calls/{origin}.lock") as call, site.lock(f"moves/{origin}.lock") as answers:
+        # (A call of this neighbour that is under way may bring it such a job, or say that it has one.)
+        if not call.wait(_PATIENCE, session.processes.pause):
             raise Failure(LATER, f"{origin} is being called by another process")
+        if not answers.wait(_PATIENCE, session.processes.pause):
+            raise Failure(LATER, f"a call of {origin} is being answered by another process")
         moves.finish_all(site)
         if not refusals.finish(site):
             raise Failure(LATER, "nothing is moved while a job that is refused cannot be removed from the spool")

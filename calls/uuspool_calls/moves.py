@@ -1,6 +1,5 @@
 """Moves of jobs from one system to another. A stopped one leaves a note, and is finished before a bundle
 or a letter says anything about such a job. All pieces of a file are one move, with one note."""
-import os
 from collections.abc import Sequence
 
 from . import files
@@ -61,7 +60,6 @@ def move(site: Site, whole: Whole, system: str, words: Sequence[str]) -> None:
     folder, number = f"{site.folder}/moves", whole.job.number
     note = Note(_named(site, whole.parts[0]), system, tuple(words))
     try:
-        os.makedirs(folder, exist_ok=True)
         files.sync_folder(site.folder)
         files.write_record(f"{folder}/{number}", note._asdict())
     except OSError as error:

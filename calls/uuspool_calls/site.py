@@ -66,7 +66,7 @@ def enter(session: Session, words: Sequence[str] | None = None, keeps: Sequence[
     _expect_owner(session, found, sys.argv[1:] if words is None else words, keeps)
     site = Site(session, found)
     with site.writing():
-        for name in "calls", "deliver", "refused":
+        for name in "calls", "deliver", "moves", "refused":
             os.makedirs(f"{site.folder}/{name}", exist_ok=True)
     return site
 
