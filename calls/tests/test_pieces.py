@@ -128,7 +128,7 @@ class Coming(Arrivals):
     def test_no_more_is_kept_than_came(self) -> None:
         for at in 2000, 0, 1000:
             self.take(DATA + bytes(LENGTH), at)
-        self.assertEqual([["about", "whole"]], self.kept())
+        self.assertEqual([["about", "front", "whole"]], self.kept())
         huge = 10**18 - 10
         for at in 0, huge - huge % LENGTH - LENGTH:
             with memory_file(bytes(LENGTH)) as content:
@@ -153,12 +153,22 @@ class Coming(Arrivals):
         with open(path, "ab") as file:
             file.write(b"half")
         self.take(DATA, 1000)
-        with open(path, "r+b") as file:  # its place, without its bytes
-            file.seek(1000)
-            file.write(bytes(1000))
-        self.take(DATA, 1000)
         self.take(DATA, 2000)
         self.assertEqual(DATA, self.bytes_of("public/a/in/x"))
+
+    def test_what_a_power_cut_left_of_a_piece(self) -> None:
+        """(Its place without its bytes, which another piece may follow, or which an early one had.)"""
+        for order in (0, 1000, 2000), (0, 2000, 1000), (0, 2000, 1000, 2000), (0, 1000, 1000, 2000), (2000, 0, 1000), (2000, 1000, 0):
+            for cut in range(len(order) - 1):
+                for at in order[: cut + 1]:
+                    self.take(DATA, at)
+                [folder] = [it for it in os.listdir(f"{self.folder}/pieces/a") if not it.endswith(".lock")]
+                os.truncate(f"{self.folder}/pieces/a/{folder}/whole", len(DATA))
+                for at in order[cut + 1 :]:
+                    self.take(DATA, at)
+                self.assertEqual(DATA, self.bytes_of("public/a/in/x"))
+                shutil.rmtree(f"{self.folder}/pieces")
+                os.remove(f"{self.folder}/public/a/in/x")
 
     def test_delivered_once_though_a_stop_came_before_the_note(self) -> None:
         for at in 0, 1000:

@@ -8,8 +8,8 @@ SUM is the SHA-256 of the whole and SIZE its bytes. A piece has LENGTH bytes, un
 PLACE. MARK differs each time that something is queued, so what a kill left of one try never mixes with the next. (An
 older site says `SUM SIZE NUMBER TO`, and its pieces have 1,000,000 bytes.)
 
-A file that comes is a folder. `whole` has its beginning, and grows when the next piece comes. What comes earlier is a
-file named by its place. So no piece takes longer than another one, and no more is kept than came, whatever a piece
+A file that comes is a folder. `whole` has its beginning, and grows when the next piece comes. `front` says how many bytes of it are on
+the disk. What comes earlier is a file named by its place. So no piece takes longer than another one, and no more is kept than came, whatever a piece
 claims."""
 import contextlib
 import os
@@ -32,6 +32,7 @@ _FREE = 20  # a part of the disk stays free of pieces: one of so many
 _MOST_DIGITS = 18  # of a size or a place
 _MOST_OF_A_MARK = 64
 _ABOUT, _WHOLE = "about", "whole"
+_FRONT = "front"  # how many bytes of the whole are on the disk
 _WORKS = "works"  # says which process works on the whole
 _CAME = "came"  # becomes _ABOUT once the whole is delivered, if the disk is full then
 
@@ -197,10 +198,8 @@ class File:
         _expect_room(self.folder)
         with self._whole(os.O_RDWR | os.O_CREAT) as whole:
             front = self._front(whole)
-            if piece.at + piece.bytes == front and not _is_same(content, whole, piece.at):
-                front = piece.at  # (a power cut may have left its place without its bytes)
             if piece.at == front:
-                _append(whole, front, content)
+                self._append(whole, front, content)
             elif piece.at < front:
                 _expect_same(piece, content, whole, piece.at)
             else:
@@ -212,9 +211,19 @@ class File:
         return files.opened(f"{self.folder}/{_WHOLE}", flags | os.O_NOFOLLOW)
 
     def _front(self, whole: int) -> int:
-        """The first place that is missing. What is behind the last whole piece was cut off by a stop."""
-        size, piece = os.fstat(whole).st_size, self.about.piece
+        """The first place that is missing. It is noted once the bytes before it are on the disk, because a power cut may leave places without
+        their bytes. (An older version noted nothing. What is behind the last whole piece was cut off by a stop.)"""
+        size, piece, noted = os.fstat(whole).st_size, self.about.piece, files.read_bytes(f"{self.folder}/{_FRONT}", _MOST_DIGITS)
+        if noted is not None and noted.isdigit():
+            return min(size, int(noted))
         return size if size >= piece.size else size - size % piece.length
+
+    def _append(self, whole: int, front: int, content: int) -> None:
+        os.ftruncate(whole, front)
+        os.lseek(whole, front, os.SEEK_SET)
+        files.copy_all(content, whole)
+        os.fsync(whole)
+        files.replace(f"{self.folder}/{_FRONT}", b"%d" % os.fstat(whole).st_size)
 
     def _keep_early(self, piece: Piece, content: int) -> None:
         path = f"{self.folder}/{piece.at}"
@@ -227,13 +236,14 @@ class File:
     def _append_early(self, whole: int) -> None:
         while os.path.exists(path := f"{self.folder}/{(front := self._front(whole))}"):
             with files.opened(path) as piece:
-                _append(whole, front, piece)
+                self._append(whole, front, piece)
             os.remove(path)
 
     def is_whole(self) -> bool:
         """Whether all pieces are here."""
-        seen = files.look(f"{self.folder}/{_WHOLE}")
-        return seen is not None and seen.st_size >= self.about.piece.size
+        with contextlib.suppress(FileNotFoundError), self._whole(os.O_RDONLY) as whole:
+            return self._front(whole) >= self.about.piece.size
+        return False
 
     @contextlib.contextmanager
     def opened(self) -> Iterator[int]:
@@ -285,13 +295,6 @@ class File:
             if name != _ABOUT:
                 files.remove(f"{self.folder}/{name}")
         files.remove(f"{self.folder}.lock")
-
-
-def _append(whole: int, front: int, content: int) -> None:
-    os.ftruncate(whole, front)
-    os.lseek(whole, front, os.SEEK_SET)
-    files.copy_all(content, whole)
-    os.fsync(whole)
 
 
 def _is_same(content: int, other: int, at: int) -> bool:
@@ -356,6 +359,7 @@ class Pieces:
             for its in self._folder, above, os.path.dirname(above):
                 files.sync_folder(its)
             about = About(piece, user, job)
+            files.replace(f"{folder}/{_FRONT}", b"0")
             about.write(folder)
         return File(folder, about)
 
