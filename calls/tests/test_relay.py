@@ -192,7 +192,8 @@ class AnotherUser(Folder):
         self.session.environment["UUSPOOL_CALL_LIMIT"] = "5"  # (so that the program begins first)
         with mock.patch.object(processes, "_GRACE", 1), mock.patch.object(processes, "_MARGIN", 0):
             began = time.monotonic()
-            ended = self.session.run_as("nobody", ["sh", "-c", "kill -STOP $PPID $$"])
+            ended = self.session.run_as("nobody", ["sh", "-c", "echo $$; kill -STOP $PPID $$"])
+        os.kill(int(ended.output), signal.SIGKILL)  # (Nobody else ends it.)
         self.assertEqual((137, True), (ended.status, time.monotonic() - began < 60))
 
     def test_a_user_without_an_account(self) -> None:
