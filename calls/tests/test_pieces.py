@@ -156,6 +156,15 @@ class Coming(Arrivals):
         self.take(DATA, 2000)
         self.assertEqual(DATA, self.bytes_of("public/a/in/x"))
 
+    def test_a_copy_of_the_whole_may_be_older_than_that_of_its_note(self) -> None:
+        self.take(DATA, 0)
+        self.take(DATA, 1000)
+        [folder] = [it for it in os.listdir(f"{self.folder}/pieces/a") if not it.endswith(".lock")]
+        os.truncate(f"{self.folder}/pieces/a/{folder}/whole", 1500)
+        self.take(DATA, 1000)
+        self.take(DATA, 2000)
+        self.assertEqual(DATA, self.bytes_of("public/a/in/x"))
+
     def test_what_a_power_cut_left_of_a_piece(self) -> None:
         """(Its place without its bytes, which another piece may follow, or which an early one had.)"""
         for order in (0, 1000, 2000), (0, 2000, 1000), (0, 2000, 1000, 2000), (0, 1000, 1000, 2000), (2000, 0, 1000), (2000, 1000, 0):

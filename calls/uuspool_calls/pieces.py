@@ -211,11 +211,11 @@ class File:
         return files.opened(f"{self.folder}/{_WHOLE}", flags | os.O_NOFOLLOW)
 
     def _front(self, whole: int) -> int:
-        """The first place that is missing. It is noted once the bytes before it are on the disk, because a power cut may leave places without
-        their bytes. (An older version noted nothing. What is behind the last whole piece was cut off by a stop.)"""
+        """The first place that is missing. What is behind the last whole piece was cut off by a stop. How much is on the disk is noted behind
+        each piece, because a power cut may leave places without their bytes. (An older version noted nothing.)"""
         size, piece, noted = os.fstat(whole).st_size, self.about.piece, files.read_bytes(f"{self.folder}/{_FRONT}", _MOST_DIGITS)
         if noted is not None and noted.isdigit():
-            return min(size, int(noted))
+            size = min(size, int(noted))
         return size if size >= piece.size else size - size % piece.length
 
     def _append(self, whole: int, front: int, content: int) -> None:
