@@ -31,6 +31,11 @@ def words_of(data: bytes, at: int, *what: str, mark: str = "m", sum_of: str = ""
     return COMMAND, file, str(at), *(what or ("send", "/x", "~/in/x"))
 
 
+def file_of(line: tuple[str, ...]) -> str:
+    """The file of a piece that is queued."""
+    return line[line.index(COMMAND) + 1]
+
+
 class Names(unittest.TestCase):
     def test_words(self) -> None:
         good = (COMMAND, f"{SUM}.2560.1000.m-1", "2000", "send", "/x", "~/x")
@@ -631,7 +636,7 @@ class HandedOn(Refused):
             with mock.patch("uuspool_calls.clock.now", return_value=1795867200 + 60 * minute):
                 self.assertEqual(0, self.deliverer.deliver(1))
         asked = [it for it in self.spool.asked if it[0] == "exec"]
-        self.assertEqual((3, 1), (len(asked), len({it[5] for it in asked})))
+        self.assertEqual((3, 1), (len(asked), len({file_of(it) for it in asked})))
         self.assertFalse(os.path.exists(f"{self.folder}/deliver/1"))
 
     def test_mail_that_is_queued_again_after_a_kill_is_the_same_file(self) -> None:
@@ -644,7 +649,7 @@ class HandedOn(Refused):
                 self.assertRaises(Stopped, self.deliverer.deliver, 1)
             self.assertEqual([1], deliver.due(self.site, [self.spool.parcels[1].job], clock.now()))
         asked = [it for it in self.spool.asked if it[0] == "exec"]
-        self.assertEqual((4, 1), (len(asked), len({it[5] for it in asked})))
+        self.assertEqual((3, 1), (len(asked), len({file_of(it) for it in asked})))
 
 
     def test_a_kill_behind_the_last_piece_and_then_another_piece(self) -> None:
@@ -764,30 +769,23 @@ class Going(Folder):
         self.site.settings = self.site.settings._replace(limit=600_000)
         self.assertEqual(asked[2:], self.queue(data))
 
-    def test_pieces_that_have_gone_together_are_not_queued_again(self) -> None:
-        """A neighbour with plain Taylor UUCP gets them as one job, and knows nothing of them. Another one knows each."""
+    def test_none_but_the_last_piece_is_queued_again_once_all_others_were(self) -> None:
+        """They may have gone to a neighbour with plain Taylor UUCP, which gets them as one job, or were moved or refused. The spool knows
+        the last one by its key."""
         data, kept = bytes(2_500_000), list[str]()
         notes = outgoing.Notes(partial(kept.append, "begins"), partial(kept.append, "ends"), lambda: kept[-1:] == ["ends"])
-        self.put("lib/uuspool/carriers/taylor", "#!/bin/sh\n", 0o755)
-        for carrier, again in ("taylor", 0), ("taylor --no-call", 0), ("", 3):
-            self.put("etc/calls/duke", carrier and f"{carrier}\n")
-            kept.clear()
-            self.spool.parcels.clear()
-            asked = self.queue(data, notes=notes)
-            self.assertEqual((3, ["begins", "ends"]), (len(asked), kept))
-            self.assertEqual(again, len(self.queue(data, notes=notes)))
-            kept.append("ends")
-            self.spool.parcels[1] = parcel(f"1 duke duke!ann B 2026-11-28 10:00:00 5 exec {' '.join(asked[0][4:])}")
-            self.assertEqual(asked[1:], self.queue(data, notes=notes), "one that waits")
-            self.spool.parcels.clear()
-            kept[:] = ["begins"]
-            self.assertEqual(asked, self.queue(data, notes=notes), "after a stop before the last one")
+        asked = self.queue(data, notes=notes)
+        self.assertEqual((["begins", "ends"], [False, False, True]), (kept, ["--once=mysite!7!request" in it for it in asked]))
+        self.assertEqual(asked[2:], self.queue(data, notes=notes))
+        self.spool.parcels = {number: parcel(f"{number} duke duke!ann B 2026-11-28 10:00:00 5 exec {' '.join(asked[number][4 + number // 2 :])}") for number in (0, 2)}
+        self.assertEqual([], self.queue(data, notes=notes), "the last one waits")
+        self.spool.parcels.clear()
+        self.assertEqual(["begins", "ends"], kept)
+        kept[:] = ["begins"]
+        self.assertEqual(asked, self.queue(data, notes=notes), "after a stop before the last one")
 
-    def test_a_single_piece_for_plain_taylor_is_queued_once(self) -> None:
-        self.put("lib/uuspool/carriers/taylor", "#!/bin/sh\n", 0o755)
-        for carrier, once in ("taylor\n", True), ("", False):
-            self.put("etc/calls/duke", carrier)
-            self.assertEqual(once, self.queue(b"x", "-m")[0][2] == "--once=mysite!7!request", carrier)
+    def test_a_single_piece_is_queued_once(self) -> None:
+        self.assertIn("--once=mysite!7!request", self.queue(b"x", "-m")[0])
 
     def test_as_a_job_or_in_pieces(self) -> None:
         self.assertEqual([("send", "-gB", "--once=mysite!7!request", "--", "duke", "~/f", "~/g")], self.queue(bytes(1 << 20)))
@@ -797,7 +795,8 @@ class Going(Folder):
         asked = self.queue(bytes(250_000))
         sums = hashlib.sha256(bytes(250_000)).hexdigest()
         file = f"{sums}.250000.100000.7-x"
-        self.assertEqual([("exec", "-gB", "--", "duke", COMMAND, file, str(at), "send", "~/f", "~/g") for at in (0, 100_000, 200_000)], asked)
+        keys = (), (), ("--once=mysite!7!request",)
+        self.assertEqual([("exec", "-gB", *key, "--", "duke", COMMAND, file, str(at), "send", "~/f", "~/g") for at, key in zip((0, 100_000, 200_000), keys)], asked)
         for number, user in (1, "duke!ann"), (2, "duke!eve"):
             waits = LINE.replace("ann", user).replace("rmail joe", f"{COMMAND} {file} {(number - 1) * 100_000} send ~/f ~/g")
             self.spool.parcels[number] = parcel(waits)

@@ -348,7 +348,8 @@ class FileHistory:
         if is_last:
             self.came = f"{number}-2026-11-28-10:00:00"
             for at in 0, 1:
-                self.log.append(line(1, self.next, f"exec -gN -- phs uuspool-piece 0f.2.1.{self.came} {at} exec rmail joe").replace(" ann ", " duke!ann "))
+                once = at * f"--once=mysite!{number}!onward "
+                self.log.append(line(1, self.next, f"exec -gN {once}-- phs uuspool-piece 0f.2.1.{self.came} {at} exec rmail joe").replace(" ann ", " duke!ann "))
                 self.onward[self.next] = (self.came, at)
                 self.next += 1
         self.log.append(line(1, number, "done mysite"))
@@ -368,7 +369,7 @@ class FileHistory:
         mark, waiting, kept, came, onward = self.copies[-1]
         with open(f"{self.folder}/log", "w", encoding="ascii") as file:
             file.writelines(self.log)
-        its = restore.Restoration(Quiet(self.folder), mock.Mock(), "", mock.Mock(), mock.Mock(word="w", mark=mark))
+        its = restore.Restoration(mock.Mock(), mock.Mock(), "", mock.Mock(), mock.Mock(word="w", mark=mark))
         its._settings = Settings("mysite", "", self.folder, "", f"{self.folder}/log", "UTC0")
         words = {number: f"mysite duke!ann N 2026-11-28 10:00:00 1 exec uuspool-piece {'0' * 64}.2.1.m {at} exec rmail phs!joe" for number, at in waiting.items()}
         words |= {number: f"phs duke!ann N 2026-11-28 10:00:00 1 exec uuspool-piece {'f' * 64}.2.1.{its_mark} {at} exec rmail joe" for number, (its_mark, at) in onward.items()}

@@ -29,7 +29,7 @@ _OTHERS = (b"init", b"renumber")  # the lines after which another spool may be t
 _GOES = (b"settle", b"done", b"kill")  # the lines that remove a job
 _QUEUES = (b"send", b"exec", b"request")
 _ANEW = re.compile(rb"-g[!-~] --once=[!-~]+!([1-9][0-9]{0,9})!(again|onward|request) -- ([!-~]+(?: [!-~]+)*)\n?\Z")  # what stands for the job of this number
-_PIECE = re.compile(rb"-g[!-~] -- [!-~]+ uuspool-piece [0-9a-f]+\.[0-9]+\.[0-9]+\.([1-9][0-9]{0,9})-[0-9]{4}-[0-9][0-9]-[0-9][0-9]-[0-9:]+ ")  # of what a job of this number handed on
+_PIECE = re.compile(rb"-g[!-~] (?:--once=[!-~]+!(?:onward|request) )?-- [!-~]+ uuspool-piece [0-9a-f]+\.[0-9]+\.[0-9]+\.([1-9][0-9]{0,9})-[0-9]{4}-[0-9][0-9]-[0-9][0-9]-[0-9:]+ ")  # of what a job of this number handed on
 
 
 class Line(NamedTuple):
@@ -126,19 +126,19 @@ class _Reading:
             self._open = set(self._open_in.get(words[6], ()))
 
     def _take_job(self, number: int, words: list[bytes]) -> None:
-        if found := _stands_for(words):
+        if (of := _is_piece_of(words)) and self._is_followed(of):
+            if of not in self._open or of not in self._pieces:
+                self._pieces.setdefault(of, []).append([])
+            self._pieces[of][-1].append(number)
+            self._open.add(of)
+            self._followed.add(number)
+        elif found := _stands_for(words):
             of, anew = found
             is_known = len(self._stands_for) < _MOST_ANEW  # (Otherwise the other one waits.)
             if self._is_followed(of):
                 self._anew |= {of: anew} if is_known else {}
             self._stands_for |= {number: of} if is_known else {}
             self._open.add(of)
-        elif (of := _is_piece_of(words)) and self._is_followed(of):
-            if of not in self._open or of not in self._pieces:
-                self._pieces.setdefault(of, []).append([])
-            self._pieces[of][-1].append(number)
-            self._open.add(of)
-            self._followed.add(number)
         elif words[5] == b"delivered":
             self._delivered |= {number} if self._is_followed(number) else set()
         elif words[6] in _GOES:

@@ -31,11 +31,12 @@ class Notes(NamedTuple):
 
 
 def queue(site: Site, what: Parcelled, content: int, notes: Notes = Notes()) -> None:
-    """Queues the bytes of an open file, as a job or in pieces. If a stop comes between two pieces, this is done again, and
-    queues those that don't wait. SpoolError if the spool doesn't take it. No piece is queued if there isn't room for all.
+    """Queues the bytes of an open file, as a job or in pieces. SpoolError if the spool doesn't take it. No piece is queued if there isn't
+    room for all.
 
-    A neighbour knows a piece that comes again, unless it has plain Taylor UUCP, where the pieces go together as one job. So if all of
-    them have gone there, none is queued again."""
+    If a stop comes between two pieces, this is done again, and queues those that don't wait: a neighbour knows a piece that comes again. Once
+    all but the last one were queued, none of them is queued again, and the last one is queued once by the key. By then they may have gone
+    together to a neighbour with plain Taylor UUCP, or were moved, refused or killed."""
     length = int(carriers.values_of(site.session, what.system).get("piece", 0))
     is_plain = what.words[0] == "exec" or len(what.words) == 3
     line = [f"--as={what.user}", "exec", f"-g{what.grade}", "--", what.system]
@@ -44,20 +45,18 @@ def queue(site: Site, what: Parcelled, content: int, notes: Notes = Notes()) -> 
         _ask(site, what.key, line, words, content)
         return
     waiting = {job.words for job in site.spool.waiting(what.system) if job.user == what.user}
-    go_together = carriers.has_plain_taylor(site.session, what.system)
-    if go_together and notes.has_ended() and not any((its := Piece.read(words)) and its.mark == what.mark for words in waiting):
-        return
-    is_expected = False
+    has_begun = has_ended = notes.has_ended()
     for piece, data in _cut(content, length or SIZE, what):
-        if tuple(piece.line()) in waiting:
+        is_last = piece.at + piece.bytes == piece.size
+        if tuple(piece.line()) in waiting or (has_ended and not is_last):
             continue
-        if not is_expected:
+        if not has_begun:
             _expect_room(site, what, piece)
             notes.begins()
-            is_expected = True
-        if piece.at and piece.at + piece.bytes == piece.size:
+            has_begun = True
+        if is_last and piece.at and not has_ended:
             notes.ends()
-        _ask(site, what.key if go_together and piece.total == 1 else "", line, piece.line(), data)
+        _ask(site, what.key if is_last else "", line, piece.line(), data)
 
 
 def _ask(site: Site, key: str, line: Sequence[str], words: Sequence[str], content: int | bytes) -> None:
