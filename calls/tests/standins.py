@@ -154,9 +154,9 @@ class StandIn:
         self.parcels[self.next] = Parcel.read(text.encode() + b"\n" + data)
         return f"job {self.next}"
 
-    def kill(self, job: Job) -> None:
+    def kill(self, job: Job) -> bool:
         self._note("kill", str(job.number))
-        self.parcels.pop(job.number, None)
+        return self.parcels.pop(job.number, None) is not None
 
     def done(self, system: str, number: int | None = None, again: bool = True) -> None:
         self._note("done", system, *([] if number is None else [str(number)]))

@@ -51,9 +51,9 @@ class Taking(Folder):
         self.assertEqual(["queue", "kill"] * 3 + ["settle", "unpack"], [it[0] for it in self.spool.asked])
 
     def test_no_move_begins_while_the_neighbour_says_what_it_has(self) -> None:
-        with files.Lock(f"{self.folder}/moves/duke.lock") as lock, mock.patch("uuspool_calls.exchange._PATIENCE", 0):
+        with files.Lock(f"{self.folder}/moves/.lock") as lock, mock.patch("uuspool_calls.site._PATIENCE", 0):
             self.assertTrue(lock.take())
-            self.assertRaisesRegex(Failure, "jobs of duke are being moved by another process", self.neighbour.take, TEXT)
+            self.assertRaisesRegex(Failure, "jobs of mysite are being moved or refused by another process", self.neighbour.take, TEXT)
             self.assertEqual(("unpack", "duke", "unc"), (self.neighbour.take(b"bundle\nend\n"), self.spool.asked[-1])[1])
 
     def test_what_answers_a_call(self) -> None:
@@ -194,11 +194,16 @@ class Refusing(Folder):
         self.site = site(self.folder, self.spool, UUSPOOL_SENDMAIL="/mailer")
         self.mailer: Mailer = self.site.session.processes
 
+    def refuse_one(self, its: Parcel, why: str) -> bool:
+        """Refuses a job that waits."""
+        self.spool.parcels[its.job.number] = its
+        return Refuser(self.site).refuse(its, why)
+
     def refuse(self, **changes: str) -> bool:
         line = LINE
         for old, new in changes.items():
             line = line.replace(old, new)
-        is_refused = Refuser(self.site).refuse(parcel(line), "no such newsgroup")
+        is_refused = self.refuse_one(parcel(line), "no such newsgroup")
         self.told = tell(self.site)
         return is_refused
 
@@ -211,6 +216,13 @@ class Refusing(Folder):
         self.assertIn(b"\n    exec rmail joe\n\nno such newsgroup.\n\nIt was queued at mysite on 2026-11-28 at 10:00:00 as job 7. It begins:\n\n> hello\n", letter)
         self.assertEqual([("kill", "7")], self.spool.asked)
         self.assertEqual(["duke ann 7 refused-for-good no such newsgroup"], self.site.log)
+
+    def test_what_goes_or_is_removed_meanwhile_is_not_refused(self) -> None:
+        self.spool.parcels.clear()
+        self.assertTrue(Refuser(self.site).refuse(parcel(), "no") and Refuser(self.site).refuse_alone(parcel(), "no"))
+        with mock.patch.object(self.spool, "kill", return_value=False):
+            self.assertTrue(self.refuse_one(parcel(), "no"))
+        self.assertEqual((0, [], [".lock"]), (tell(self.site), self.mailer.ran, os.listdir(f"{self.folder}/refused")))
 
     def test_once(self) -> None:
         self.refuse()
@@ -332,7 +344,7 @@ class Refusing(Folder):
     def test_many_refusals_are_one_letter(self) -> None:
         for number in range(1, 61):
             job = parcel(LINE.replace("7", str(number), 1).replace("ann", f"unc!u{number}"))
-            Refuser(self.site).refuse(job, "no such newsgroup")
+            self.refuse_one(job, "no such newsgroup")
         self.assertEqual(0, tell(self.site))
         letters = [words for words in self.spool.asked if words[0] == "mail"]
         self.assertEqual([("mail", "--once=mysite!1!refused", "--", "unc!postmaster")], letters)
@@ -342,7 +354,7 @@ class Refusing(Folder):
         counts = {"ann": 21, "bob": 30, "eve": 1}
         users = [user for user, count in counts.items() for _ in range(count)]
         for number, user in enumerate(users, 1):
-            Refuser(self.site).refuse(parcel(LINE.replace("7", str(number), 1).replace("ann", user)), f"no room for {user}")
+            self.refuse_one(parcel(LINE.replace("7", str(number), 1).replace("ann", user)), f"no room for {user}")
         self.assertEqual(0, tell(self.site))
         letters = {words[-1]: letter.decode() for words, letter in self.mailer.ran}
         self.assertEqual((3, set(counts)), (len(self.mailer.ran), set(letters)))
@@ -377,7 +389,7 @@ class Refusing(Folder):
     def test_what_a_sender_may_keep_here(self) -> None:
         for number, user in (1, "unc!x"), (2, "unc!x"), (3, "duke!y"), (4, "ann"):
             line = LINE.replace("7", str(number), 1).replace("ann", user).replace(" 5 ", " 700000 ")
-            Refuser(self.site).refuse(parcel(line, b"x" * 700000), "no")
+            self.refuse_one(parcel(line, b"x" * 700000), "no")
             os.utime(f"{self.folder}/refused/{number}.untold", (number * 86400,) * 2)
         tell(self.site)
         self.site.session.environment |= {"UUSPOOL_REFUSED_DAYS": "40000", "UUSPOOL_REFUSED_MEGABYTES": "1"}
@@ -392,7 +404,7 @@ class Refusing(Folder):
 
     def test_nothing_goes_before_its_user_was_told(self) -> None:
         for number, user in enumerate(("ann", "ann", "bob", "duke!x", "duke!y"), 1):
-            Refuser(self.site).refuse(parcel(LINE.replace("7", str(number), 1).replace("ann", user)), "no")
+            self.refuse_one(parcel(LINE.replace("7", str(number), 1).replace("ann", user)), "no")
             os.utime(f"{self.folder}/refused/{number}.untold", (number * 86400,) * 2)
         self.site.session.environment |= {"UUSPOOL_REFUSED_MEGABYTES": "0"}
         with mock.patch("uuspool_calls.refusals.tell"):
@@ -432,10 +444,10 @@ class Refusing(Folder):
 
     def test_jobs_of_one_number_in_two_spools_bring_two_letters(self) -> None:
         for user in "ann", "bea":
-            Refuser(self.site).refuse(parcel(LINE.replace("ann", user)), "no")
+            self.refuse_one(parcel(LINE.replace("ann", user)), "no")
         self.assertEqual((0, ["ann", "bea"]), (tell(self.site), sorted(words[-1] for words, _ in self.mailer.ran)))
         for data in b"hello", b"Hello":
-            Refuser(self.site).refuse(parcel(LINE.replace("ann", "eve"), data), "no")
+            self.refuse_one(parcel(LINE.replace("ann", "eve"), data), "no")
         self.assertEqual((0, 4), (tell(self.site), len(self.mailer.ran)))
 
     def test_a_neighbours_user_gets_one_letter_under_a_key(self) -> None:
@@ -478,7 +490,7 @@ class Moving(Folder):
         self.site = site(self.folder, self.spool)
 
     def notes(self) -> list[str]:
-        return os.listdir(f"{self.folder}/moves")
+        return [it for it in os.listdir(f"{self.folder}/moves") if it.isdecimal()]
 
     def test_a_move(self) -> None:
         moves.move(self.site, alone(parcel()), "unc", ["rmail", "duke!joe"])
@@ -530,10 +542,10 @@ class Moving(Folder):
         for stops in range(4):
             whole, kills = self.put_pieces(), iter(range(stops))
 
-            def kill_some(job: Job) -> None:
+            def kill_some(job: Job) -> bool:
                 if next(kills, None) is None:
                     raise KeyboardInterrupt
-                kill(job)
+                return kill(job)
 
             with mock.patch.object(self.spool, "kill", kill_some), contextlib.suppress(KeyboardInterrupt):
                 moves.move(self.site, whole, "unc", ["rmail", "duke!joe"])
@@ -541,6 +553,36 @@ class Moving(Folder):
             moves.finish_all(self.site, "duke")
             self.assertEqual(([], ["exec rmail joe"]), (self.notes(), self.left("duke")))
             self.assertEqual({f"{at} exec rmail duke!joe" for at in (0, 1000, 2000)}, set(self.left("unc")))
+
+    def test_a_job_that_its_user_removes_meanwhile_does_not_go(self) -> None:
+        queue = self.spool.queue_again
+
+        def queue_and_remove(job: Job, *rest: object) -> str:
+            self.spool.parcels.pop(job.number)
+            return queue(job, *rest)  # type: ignore[arg-type]
+
+        with mock.patch.object(self.spool, "queue_again", queue_and_remove):
+            moves.move(self.site, alone(self.spool.parcels[7]), "unc", ["rmail", "joe"])
+        self.assertEqual(([], {}, []), (self.notes(), self.spool.parcels, self.site.log))
+        self.spool.parcels = {7: parcel()}
+        with mock.patch.object(self.spool, "show", return_value=None):
+            moves.move(self.site, alone(parcel()), "unc", ["rmail", "joe"])
+        self.assertEqual([7], list(self.spool.parcels))
+
+    def test_pieces_that_their_user_removes_meanwhile_take_the_others_with_them(self) -> None:
+        kill = self.spool.kill
+        for removed in ([9, 8], [8], [9]):
+            whole = self.put_pieces()
+
+            def kill_and_remove(job: Job) -> bool:
+                if job.number == 7:
+                    for number in removed:
+                        self.spool.parcels.pop(number, None)
+                return kill(job)
+
+            with mock.patch.object(self.spool, "kill", kill_and_remove):
+                moves.move(self.site, whole, "unc", ["rmail", "joe"])
+            self.assertEqual(([], ["exec rmail joe"], []), (self.notes(), self.left("duke"), self.left("unc")))
 
     def test_a_file_that_the_other_system_never_takes_stays_whole_or_half(self) -> None:
         whole = self.put_pieces()

@@ -16,7 +16,6 @@ _MOST_NUMBERS = 2048  # that jobs get anew in one call
 _NEVER_TAKEN = ("NoBundle", "OtherSender", "OtherSite", "NotSealed", "WrongKey")  # what the program calls such a text
 _MOST_DIGITS = 20  # of a number of jobs
 _WAITING = ".waiting.untold"  # ends the name of what is kept of a job that is refused and not removed yet
-_PATIENCE = 10  # seconds for a move of jobs
 _MOST_WAITING = 5000  # jobs of a neighbour that wait here, above which no more are taken
 
 
@@ -161,9 +160,7 @@ class Neighbour:
     def _settle(self, text: bytes) -> Settled:
         """Removes our jobs that the neighbour has. What moves to another one goes before that, and no move begins meanwhile: if the neighbour
         has some pieces of a file, the others must not be elsewhere without these."""
-        with self._site.lock(f"moves/{self._name}.lock") as lock:
-            if not lock.wait(_PATIENCE, self._site.session.processes.pause):
-                raise Failure(LATER, f"jobs of {self._name} are being moved by another process")
+        with self._site.alone():
             finish_begun(self._site, self._name)
             return self._site.spool.settle(self._name, text)
 
@@ -246,8 +243,11 @@ class Neighbour:
     def _refuse(self, number: int) -> None:
         from .refusals import Refuser, tell
 
-        parcel = self._site.spool.show(number)
-        if parcel and Refuser(self._site).refuse(parcel, f"it is too large for {self._name}"):
+        with self._site.alone():
+            finish_begun(self._site, self._name)
+            parcel = self._site.spool.show(number)
+            is_refused = parcel is not None and Refuser(self._site).refuse(parcel, f"it is too large for {self._name}")
+        if is_refused:
             tell(self._site, at_once=False)
 
     def _numbers_to_pass(self) -> int:
@@ -268,6 +268,8 @@ class Neighbour:
                 if not (parcel := self._site.spool.show(number)):
                     break  # (somebody removed it meanwhile)
                 said, user = requeue(self._site, parcel, self._name), parcel.job.user
+                if not said:
+                    break
                 number, self._numbers_left = int(said.split()[1]), self._numbers_left - 1
         except (SpoolError, NotRemoved) as error:
             taken.faults.append(f"{self._name} refuses job {number} ({refused.reason}), and it cannot be queued anew: {error}")

@@ -120,8 +120,10 @@ def older(site: Site, jobs: Sequence[Job], days: int, seen: Iterable[Seen] = ())
 
 
 def _refuse(site: Site, job: Job, days: int) -> bool:
-    parcel = site.spool.show(job.number)
-    return parcel is None or Refuser(site).refuse(parcel, f"it waited for {job.system} for {days} days, and nobody took it")
+    with site.alone():
+        moves.finish_all(site)
+        parcel = site.spool.show(job.number)
+        return parcel is None or Refuser(site).refuse(parcel, f"it waited for {job.system} for {days} days, and nobody took it")
 
 
 def _warn(site: Site, job: Job, days: int) -> bool:

@@ -34,21 +34,26 @@ def run(session: Session, words: Sequence[str]) -> int:
     site = enter(session)
     _expect_neighbour(site, origin, target)
     session.processes.catch_stops()
-    with site.lock(f"calls/{origin}.lock") as call, site.lock(f"moves/{origin}.lock") as answers:
-        # (A call of this neighbour that is under way may bring it such a job, or say that it has one.)
-        if not call.wait(_PATIENCE, session.processes.pause):
+    with site.lock(f"calls/{origin}.lock") as lock:
+        # (A call of this neighbour that is under way may bring it such a job.)
+        if not lock.wait(_PATIENCE, session.processes.pause):
             raise Failure(LATER, f"{origin} is being called by another process")
-        if not answers.wait(_PATIENCE, session.processes.pause):
-            raise Failure(LATER, f"a call of {origin} is being answered by another process")
-        moves.finish_all(site)
-        if not refusals.finish(site):
-            raise Failure(LATER, "nothing is moved while a job that is refused cannot be removed from the spool")
-        chosen, parts = _chosen(site, origin, set(map(int, numbers)))
-        for whole in chosen:
-            _move(site, whole, target, whole.job.words if keeps else addressed_on(whole.job, origin))
+        parts = _move_all(site, origin, target, set(map(int, numbers)), keeps)
     for part in parts:
         session.say(f"job {part.job.number} stays for {origin}, because a file moves only while all of its pieces wait: {part.what}")
     return LATER if parts else 0
+
+
+def _move_all(site: Site, origin: str, target: str, numbers: set[int], keeps: bool) -> list[Listed]:
+    """Moves all, or those with these numbers. The result has the files of which only a part waits."""
+    with site.alone():
+        moves.finish_all(site)
+        if not refusals.finish(site):
+            raise Failure(LATER, "nothing is moved while a job that is refused cannot be removed from the spool")
+        chosen, parts = _chosen(site, origin, numbers)
+        for whole in chosen:
+            _move(site, whole, target, whole.job.words if keeps else addressed_on(whole.job, origin))
+    return parts
 
 
 def _expect_neighbour(site: Site, origin: str, target: str) -> None:

@@ -1,5 +1,6 @@
 """Moves of jobs from one system to another. A stopped one leaves a note, and is finished before a bundle
 or a letter says anything about such a job. All pieces of a file are one move, with one note."""
+import contextlib
 from collections.abc import Sequence
 
 from . import files
@@ -77,7 +78,9 @@ def _finish(site: Site, number: int, note: Note, left: Sequence[Job]) -> None:
     has_begun = not left or sum(job.size for job in left) < whole_of(left[0]).size
     for job in left:
         try:
-            _move_one(site, job, note)
+            if not _move_one(site, job, note):
+                _take_back(site, left, note)
+                break
         except NotRemoved as error:
             raise _half(note, str(error)) from None
         except SpoolError as error:
@@ -89,11 +92,22 @@ def _finish(site: Site, number: int, note: Note, left: Sequence[Job]) -> None:
     files.remove(f"{site.folder}/moves/{number}")
 
 
-def _move_one(site: Site, job: Job, note: Note) -> None:
+def _move_one(site: Site, job: Job, note: Note) -> bool:
+    """Moves a job, unless its user removed it meanwhile."""
     parcel = site.spool.show(job.number)
-    if parcel is not None:
-        queued = requeue(site, parcel, note.system, note.words_of(job))
+    queued = requeue(site, parcel, note.system, note.words_of(job)) if parcel else ""
+    if queued:
         site.log.note(note.system, job.user, queued.split()[1], "moved", f"from {job.system}, where it was job {job.number}")
+    return queued != ""
+
+
+def _take_back(site: Site, left: Sequence[Job], note: Note) -> None:
+    """A user removed some pieces of a file while it moved. So the others go, too, those that have moved and those that haven't."""
+    piece = Piece.of(left[0])
+    if piece:
+        name = piece._replace(words=(piece.words[0], *note.words)).name(f"{note.system} {left[0].user}")
+        for job in (*left, *(it for it in site.spool.waiting(note.system) if name_of(it) == name)):
+            site.spool.kill(job)
 
 
 def _half(note: Note, said: str) -> HalfMoved:
@@ -102,13 +116,19 @@ def _half(note: Note, said: str) -> HalfMoved:
 
 def finish_all(site: Site, neighbour: str = "") -> None:
     """Finishes the moves from and to a neighbour, or all of them."""
-    for name in files.names_in(f"{site.folder}/moves"):
-        note = Note.read(f"{site.folder}/moves/{name}") if name.isdecimal() else None
-        if note is None or neighbour not in ("", note.system, note.origin):
-            continue
-        try:
-            _finish(site, int(name), note, _left(site, int(name), note))
-        except NotMoved:
-            continue
-        except (HalfMoved, SpoolError) as error:
-            raise Failure(LATER, f"job {name} is half moved: {error}") from None
+    names = list(filter(str.isdecimal, files.names_in(f"{site.folder}/moves")))
+    with site.alone() if names else contextlib.nullcontext():
+        for name in names:
+            _finish_of(site, int(name), neighbour)
+
+
+def _finish_of(site: Site, number: int, neighbour: str) -> None:
+    note = Note.read(f"{site.folder}/moves/{number}")
+    if note is None or neighbour not in ("", note.system, note.origin):
+        return
+    try:
+        _finish(site, number, note, _left(site, number, note))
+    except NotMoved:
+        return
+    except (HalfMoved, SpoolError) as error:
+        raise Failure(LATER, f"job {number} is half moved: {error}") from None

@@ -38,16 +38,22 @@ class NotRemoved(Exception):
 
 def requeue(site: Site, parcel: Parcel, system: str, words: Sequence[str] | None = None) -> str:
     """Queues a job anew for a system, once, under a new number, and removes the old one. The answer is
-    `job` and the number. SpoolError if it wasn't queued."""
+    `job` and the number, or nothing if its user removed the old one meanwhile: then the new one is removed, too. SpoolError if it wasn't
+    queued."""
     job = parcel.job
-    site.will_forget_keys()
-    key = f"{site.own}!{job.number}!again"
-    queued = site.spool.queue_again(job, key, system, job.words if words is None else words, parcel.data)
-    try:
-        site.spool.kill(job)
-    except SpoolError as error:
-        raise NotRemoved(str(error)) from None
-    return queued
+    with site.alone():
+        if site.spool.show(job.number) is None:
+            return ""
+        site.will_forget_keys()
+        key = f"{site.own}!{job.number}!again"
+        queued = site.spool.queue_again(job, key, system, job.words if words is None else words, parcel.data)
+        try:
+            if site.spool.kill(job):
+                return queued
+            site.spool.kill(job._replace(number=int(queued.split()[1])))
+        except SpoolError as error:
+            raise NotRemoved(str(error)) from None
+    return ""
 
 
 class Refuser:
@@ -57,24 +63,23 @@ class Refuser:
         self._site = site
 
     def refuse(self, parcel: Parcel, why: str, is_kept: bool = False) -> bool:
-        """Refuses a job, and the other pieces of its file that wait with it, unless it is kept already. If one can't be
-        refused now it waits, and this says so."""
+        """Refuses a job, and the other pieces of its file that wait with it, unless it is kept already. One that is gone meanwhile isn't
+        refused. If one can't be refused now it waits, and this says so."""
         if is_kept:
             return self._remove(parcel.job, printable(why[:500]))
-        if pieces.Piece.of(parcel.job) is None:
-            return self._refuse([parcel], why)
-        try:
-            waiting = self._site.spool.waiting(parcel.job.system)
-        except SpoolError as error:
-            return self._waits(parcel.job.number, str(error))
-        _, *others = pieces.together(parcel.job, waiting)
-        is_there = any(it.number == parcel.job.number for it in waiting)
-        shown = (self._site.spool.show(it.number) for it in others)
-        return self._refuse(itertools.chain([parcel] if is_there else [], shown), why)
+        with self._site.alone():
+            try:
+                waiting = self._site.spool.waiting(parcel.job.system)
+            except SpoolError as error:
+                return self._waits(parcel.job.number, str(error))
+            jobs = [it for it in pieces.together(parcel.job, waiting) if any(it.number == other.number for other in waiting)]
+            shown = (parcel if it.number == parcel.job.number else self._site.spool.show(it.number) for it in jobs)
+            return self._refuse(shown, why)
 
     def refuse_alone(self, parcel: Parcel, why: str) -> bool:
         """Refuses a job, and no other piece of its file."""
-        return self._refuse([parcel], why, _ALONE)
+        with self._site.alone():
+            return self._refuse([self._site.spool.show(parcel.job.number)], why, _ALONE)
 
     def _refuse(self, parcels: Iterable[Parcel | None], why: str, end: str = WAITING) -> bool:
         """Each is kept before the first one is removed, so a stop leaves no piece of a file of which nobody knows that it is
@@ -94,9 +99,12 @@ class Refuser:
     def _remove(self, job: Job, reason: str, path: str = "", end: str = "") -> bool:
         """Removes a job that is kept. Now its user may be told."""
         try:
-            self._site.spool.kill(job)
+            was_there = self._site.spool.kill(job)
         except SpoolError as error:
             return self._waits(job.number, str(error))
+        if path and not was_there:  # (its user removed it meanwhile)
+            files.remove(f"{path}{end}")
+            return True
         self._site.log.note(job.system, job.user, job.number, "refused-for-good", reason)
         if path:
             with contextlib.suppress(FileNotFoundError):  # (unless another process did so meanwhile)
@@ -131,7 +139,10 @@ def finish(site: Site, number: int | None = None) -> bool:
     """Removes the jobs that are kept, and that a stop left in the spool, or the one of this number. Otherwise they would go,
     though their users are told that they are refused. Whether none of them waits any more."""
     found = [it for it in files.names_in(f"{site.folder}/refused") if it.endswith(WAITING) and number in (None, _number_in(it))]
-    return all([_finish(site, f"{site.folder}/refused/{name}") for name in found])
+    if not found:
+        return True
+    with site.alone():
+        return all([_finish(site, f"{site.folder}/refused/{name}") for name in found])
 
 
 def _number_in(name: str) -> int | None:

@@ -19,7 +19,6 @@ def run(session: Session, words: Sequence[str]) -> int:
         raise Failure(USAGE, _USAGE)
     site = enter(session)
     session.processes.catch_stops()
-    moves.finish_all(site)
     number = int(words[0])
     if not _refuse(site, _parcel(site, number), " ".join(words[1:])):
         return LATER
@@ -37,7 +36,9 @@ def _refuse(site: Site, parcel: Parcel, why: str) -> bool:
     """A piece that came here is refused with what came before. What is being delivered isn't refused."""
     number = parcel.job.number
     if parcel.job.system != site.own:
-        return Refuser(site).refuse(parcel, why)
+        with site.alone():
+            moves.finish_all(site)
+            return Refuser(site).refuse(_parcel(site, number), why)
     with site.lock(f"deliver/{number}{LOCK}") as lock:
         if not lock.take():
             raise Failure(LATER, f"job {number} is being delivered: repeat this if it still waits then")

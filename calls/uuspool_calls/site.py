@@ -13,6 +13,7 @@ from .session import Session, user_name
 from .spool import Spool
 
 _MOST_OF_A_WORD = 1 << 12  # bytes
+_PATIENCE = 60  # seconds for others that move, refuse or settle jobs
 ROUND = "deliver/round"  # the file whose time is that of the last round of a night
 VACUUM = "deliver/vacuum"  # the file whose time is when a night last gave back the room of the spool's file
 
@@ -30,6 +31,23 @@ class Site:
         self.spool = Spool([session.program, "-c", found.path], found.start, self.environment, session.processes)
         self.contacts = Contacts(self.folder)
         self.log = Journal(found.log, found.zone, session.say)
+        self._is_alone = False
+
+    @contextlib.contextmanager
+    def alone(self) -> Iterator[None]:
+        """Meanwhile no other process moves or refuses jobs, or settles which of them a neighbour has. Otherwise pieces of one file would be
+        at two neighbours, or a job would go whose user hears that it is refused."""
+        if self._is_alone:
+            yield
+            return
+        with self.lock("moves/.lock") as lock:
+            if not lock.wait(_PATIENCE, self.session.processes.pause):
+                raise Failure(LATER, f"jobs of {self.own} are being moved or refused by another process")
+            self._is_alone = True
+            try:
+                yield
+            finally:
+                self._is_alone = False
 
     def word(self) -> str:
         """What identifies this spool. A new one, which gives its numbers again, has another word."""

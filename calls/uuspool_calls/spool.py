@@ -185,13 +185,23 @@ class Spool:
         line = [f"--as={job.user}", job.kind, f"-g{job.grade}", f"--once={key}", "--", system, *words]
         return self.ask(*line, given=data).strip()
 
-    def kill(self, job: Job) -> None:
-        """Removes a job, if it is there."""
+    def kill(self, job: Job) -> bool:
+        """Removes a job. Whether it was there. If the spool fails, it is asked again, and then that isn't known for certain."""
+        line = f"--as={job.user}", "kill", "--", str(job.number)
         try:
-            self.ask(f"--as={job.user}", "kill", "--", str(job.number))
+            self.ask_once(*line)
+            return True
+        except SpoolError as error:
+            if str(error) == "refused NoJob":
+                return False
+            if error.is_final:
+                raise
+        try:
+            self.ask(*line)
         except SpoolError as error:
             if str(error) != "refused NoJob":
                 raise
+        return True  # (the first time, if not now)
 
     def done(self, system: str, number: int | None = None, again: bool = True) -> None:
         """Notes that a call was made, or that a job was delivered, which may be gone. If the spool fails, it is asked again,
