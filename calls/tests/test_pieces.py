@@ -11,7 +11,7 @@ import unittest
 from functools import partial
 from unittest import mock
 
-from uuspool_calls import clock, deliver, files, newest, outgoing, pieces, records, refusals
+from uuspool_calls import clock, deliver, files, newest, outgoing, pieces, records, refusals, refuse, works
 from uuspool_calls.delivery import Asked, Delivery, Outcome, Wishes
 from uuspool_calls.errors import Delay, Failure, Refusal, SpoolError, Stopped
 from uuspool_calls.files import memory_file
@@ -354,6 +354,29 @@ class Refused(Arrivals):
         [folder] = [it for it in os.listdir(f"{self.folder}/refused") if it.endswith(".file")]
         self.assertEqual(DATA, self.bytes_of(f"refused/{folder}/whole"))
         self.assertEqual("mysite a!ann 3 refused-for-good mysite has no command sh for neighbours: " + f"{self.folder}/etc/commands has no line of it", self.log[2])
+
+    def test_a_file_is_not_refused_while_a_command_works_on_it_or_once_it_came(self) -> None:
+        """(The delivery that began the command was killed.)"""
+        for at in 0, 1000:
+            self.give(at, "exec", "rmail", "joe")
+        [folder] = [it for it in os.listdir(f"{self.folder}/pieces/a") if not it.endswith(".lock")]
+        works.note(f"{self.folder}/pieces/a/{folder}/works")
+        commands = self.bytes_of("etc/commands")
+        for lines in commands, b"":  # (and if the command isn't allowed any more)
+            self.put("etc/commands", lines)
+            self.assertEqual(0, self.give(2000, "exec", "rmail", "joe", number=3))
+            self.assertEqual("mysite a!ann 3 waits rmail at mysite still works on it, though what began it was ended", self.log[-1])
+        with self.assertRaisesRegex(Failure, "^job 3 cannot be refused now, and waits: rmail at mysite still works on it"):
+            refuse._refuse(self.site, self.spool.parcels[3], "why")
+        self.assertEqual(([], True), (os.listdir(f"{self.folder}/refused"), 3 in self.spool.parcels))
+        self.put("etc/commands", commands)
+        self.put(f"pieces/a/{folder}/works")
+        self.spool.fails["done"] = SpoolError(3, "uuspool: spool: store")
+        self.assertRaises(Failure, self.give, 2000, "exec", "rmail", "joe", number=3)
+        with self.assertRaisesRegex(Failure, "^job 3 is delivered, and the spool could not note that yet"):
+            refuse._refuse(self.site, self.spool.parcels[3], "why")
+        self.spool.fails.clear()
+        self.assertEqual((0, 1), (self.deliverer.deliver(3), len(self.bytes_of("ran").splitlines())))
 
     def test_a_job_that_is_no_piece_is_kept_as_a_job(self) -> None:
         self.spool.parcels[1] = parcel(f"1 mysite a!ann N 2026-11-28 10:00:00 5 exec {COMMAND} x")

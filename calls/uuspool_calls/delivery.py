@@ -17,6 +17,10 @@ _KILLED = 137
 _PATIENCE = 60  # seconds for another file of the sender to get its name
 
 
+class StillWorks(Delay):
+    """The command of a job works, though what began it is gone. So the job is neither delivered nor refused now."""
+
+
 class Outcome(NamedTuple):
     """What became of a job."""
 
@@ -57,10 +61,10 @@ class Delivery:
         return Outcome(job.what + _other(job.words[1], put), wishes=Wishes.read(job.words[2:]))
 
     def _expect_at_rest(self, job: Delivered) -> None:
-        """Delay if a command works on a job, though what began it is gone. What that left of it is ended."""
+        """StillWorks if a command works on a job, though what began it is gone. What that left of it is ended."""
         if job.working:
             if works.is_so(job.working):
-                raise Delay(f"{job.words[0]} at {self._own} still works on it, though what began it was ended")
+                raise StillWorks(f"{job.words[0]} at {self._own} still works on it, though what began it was ended")
             works.end_left(job.working)
 
     def _expect_allowed(self, job: Delivered) -> None:
@@ -172,13 +176,23 @@ class Delivery:
             raise cannot_be_kept(_piece(job), self._folder, error) from None
         return job.name
 
+    def has_come(self, job: Delivered) -> bool:
+        """Whether a job is a piece of a file that was delivered."""
+        if job.kind != "exec" or Piece.read(job.words) is None:
+            return False
+        with self._held(job) as file:
+            return file.about.came != ""
+
     def set_aside(self, job: Delivered, why: str) -> bool:
-        """Refuses the file of which a job is a piece, as far as it came. Whether it is one."""
+        """Refuses the file of which a job is a piece, as far as it came. Whether it is one. StillWorks if a command works on the job,
+        or on the file."""
+        self._expect_at_rest(job)
         if job.kind != "exec" or Piece.read(job.words) is None:
             return False
         with self._held(job) as file:
             if file.about.came:
                 return True
+            self._expect_at_rest(job._replace(words=file.about.piece.words[1:], working=file.working))
             with contextlib.suppress(Refusal, Delay, OSError):
                 file.take(_piece(job), job.content)
             if not file.is_refused:
