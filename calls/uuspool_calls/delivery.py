@@ -57,7 +57,7 @@ class Delivery:
         if job.kind == "exec":
             self._run(job)
             return Outcome(job.what)
-        put = self.public_of(job.sender).put(job.words[1], job.content, partial(self._is_newest, job))
+        put = self.public_of(job.sender).put(job.words[1], job.content, partial(self._names, job))
         return Outcome(job.what + _other(job.words[1], put), wishes=Wishes.read(job.words[2:]))
 
     def _expect_at_rest(self, job: Delivered) -> None:
@@ -105,21 +105,35 @@ class Delivery:
         return public.find(common, f"{self._session.etc}/public", sender, self._own)
 
     @contextlib.contextmanager
-    def _is_newest(self, job: Delivered, name: str) -> Iterator[bool]:
-        """Whether no newer job of the sender put a file of this name. No other one puts a file meanwhile."""
+    def _names(self, job: Delivered, name: str) -> Iterator[public.Names]:
+        """The record of the names of the sender's files, for a file of this name. No other job puts a file meanwhile."""
         from . import newest  # (which few jobs need)
 
         sender = job.sender or self._own
-        path = f"{self._folder}/deliver/.{sender}.files"
+        path, word = f"{self._folder}/deliver/.{sender}.files", self._asked.word
+        needed = partial(self._record_needed, name, path)
+
+        def replaces(name: str, is_there: bool) -> bool:
+            with needed():
+                return newest.note(path, word, name, job.number, is_there)
+
+        def put_beside(name: str) -> None:
+            with needed():
+                newest.forget(path, word, name)
+
         with contextlib.ExitStack() as held:
-            try:
+            with needed():
                 lock = held.enter_context(files.Lock(f"{path}.lock"))
                 if not lock.wait(_PATIENCE, self._session.processes.pause):
                     raise Delay(f"{name} waits at {self._own} for another file of {sender}")
-                is_newest = newest.note(path, self._asked.word, name, job.number)
-            except OSError as error:
-                raise Delay(f"{name} waits at {self._own}, because {path} cannot be written: {error.strerror}") from None
-            yield is_newest
+            yield public.Names(replaces, put_beside)
+
+    @contextlib.contextmanager
+    def _record_needed(self, name: str, path: str) -> Iterator[None]:
+        try:
+            yield
+        except OSError as error:
+            raise Delay(f"{name} waits at {self._own}, because {path} cannot be written: {error.strerror}") from None
 
     def _pieces_of(self, job: Delivered) -> Pieces:
         folder = f"{self._folder}/pieces/{job.sender or self._own}"
