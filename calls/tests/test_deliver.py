@@ -334,6 +334,49 @@ class Refused(Folder):
         with self.assertRaisesRegex(Failure, "^there is no job 7"):
             refuse._refuse(its, its7, "why")
 
+    def test_what_a_command_still_works_on_is_not_refused(self) -> None:
+        """(Its delivery was killed, and gave its lock back.)"""
+        spool = StandIn([parcel(LINE.replace("duke", "mysite"))])
+        its, job = site(self.folder, spool), spool.parcels[7].job
+        works.note(f"{self.folder}/deliver/7.works")
+        with self.assertRaisesRegex(Failure, "^job 7 cannot be refused now, and waits: rmail at mysite still works on it") as raised:
+            refuse._refuse(its, spool.parcels[7], "why")
+        self.assertEqual((75, [], [7]), (raised.exception.status, os.listdir(f"{self.folder}/refused"), list(spool.parcels)))
+        records.Tries(job.line, "w1", 30, 0, 0).write(f"{self.folder}/deliver", 7)
+        deliverer = deliver.Deliverer(its)
+        deliverer.note_killed(7, 9)
+        self.assertEqual(0, deliverer.deliver(7))  # (which never says that it still works for 5 days, and so is refused)
+        self.assertEqual((32, [7]), (records.Tries.read(f"{self.folder}/deliver", "w1", job, 0).failed, list(spool.parcels)))
+        self.assertEqual(["mysite ann 7 waits rmail at mysite still works on it, though what began it was ended"] * 2, its.log)
+        self.put("deliver/7.works")
+        deliverer.note_killed(7, 9)
+        self.assertEqual((["7.untold"], []), (os.listdir(f"{self.folder}/refused"), list(spool.parcels)))
+
+    def test_what_a_killed_delivery_left_ends_before_the_job_is_refused(self) -> None:
+        spool = StandIn([parcel(LINE.replace("duke", "mysite"))])
+        its = site(self.folder, spool)
+        path, ready = f"{self.folder}/deliver/7.works", f"{self.folder}/ready"
+        nothing = os.open(os.devnull, os.O_RDWR)
+        child = Program(["sh", "-c", f"sleep 100 & echo $! >{ready}; wait"], "", dict(os.environ), 100, first=partial(works.note, path)).start((nothing, nothing, nothing))
+        os.close(nothing)
+        while not (os.path.exists(ready) and self.bytes_of("ready")):
+            time.sleep(0.01)
+        child.kill()
+        child.wait()
+        self.assertTrue(refuse._refuse(its, spool.parcels[7], "why"))
+        self.expect_end(int(self.bytes_of("ready")))
+
+    def test_what_is_delivered_is_not_refused(self) -> None:
+        """(The spool couldn't note that.)"""
+        spool = StandIn([parcel(LINE.replace("duke", "mysite"))])
+        its, job = site(self.folder, spool), spool.parcels[7].job
+        records.Tries(job.line, "w1", 30, 0, 0, came=job.what).write(f"{self.folder}/deliver", 7)
+        with self.assertRaisesRegex(Failure, "^job 7 is delivered, and the spool could not note that yet: uuspool-deliver 7 notes it") as raised:
+            refuse._refuse(its, spool.parcels[7], "why")
+        deliver.Deliverer(its).note_killed(7, 9)
+        self.assertEqual((75, [7], []), (raised.exception.status, list(spool.parcels), os.listdir(f"{self.folder}/refused")))
+        self.assertEqual(0, deliver.Deliverer(its).deliver(7))
+        self.assertEqual((("done", "mysite", "7"), "mysite ann 7 delivered exec rmail joe"), (spool.asked[-1], its.log[-1]))
 
     def test_what_a_stop_left_refused_is_not_delivered(self) -> None:
         spool = StandIn([parcel(LINE.replace("duke", "mysite"))])

@@ -11,13 +11,14 @@ import unittest
 from functools import partial
 from unittest import mock
 
-from uuspool_calls import clock, deliver, files, newest, outgoing, pieces, records, refusals
+from uuspool_calls import clock, deliver, files, newest, outgoing, pieces, public, records, refusals, refuse, works
 from uuspool_calls.delivery import Asked, Delivery, Outcome, Wishes
 from uuspool_calls.errors import Delay, Failure, Refusal, SpoolError, Stopped
 from uuspool_calls.files import memory_file
 from uuspool_calls.jobs import Delivered, Job
 from uuspool_calls.pieces import COMMAND, Piece
 from uuspool_calls.processes import Child
+from uuspool_calls.values import Any
 
 from .standins import LINE, Folder, StandIn, aged, parcel, site
 
@@ -355,6 +356,29 @@ class Refused(Arrivals):
         self.assertEqual(DATA, self.bytes_of(f"refused/{folder}/whole"))
         self.assertEqual("mysite a!ann 3 refused-for-good mysite has no command sh for neighbours: " + f"{self.folder}/etc/commands has no line of it", self.log[2])
 
+    def test_a_file_is_not_refused_while_a_command_works_on_it_or_once_it_came(self) -> None:
+        """(The delivery that began the command was killed.)"""
+        for at in 0, 1000:
+            self.give(at, "exec", "rmail", "joe")
+        [folder] = [it for it in os.listdir(f"{self.folder}/pieces/a") if not it.endswith(".lock")]
+        works.note(f"{self.folder}/pieces/a/{folder}/works")
+        commands = self.bytes_of("etc/commands")
+        for lines in commands, b"":  # (and if the command isn't allowed any more)
+            self.put("etc/commands", lines)
+            self.assertEqual(0, self.give(2000, "exec", "rmail", "joe", number=3))
+            self.assertEqual("mysite a!ann 3 waits rmail at mysite still works on it, though what began it was ended", self.log[-1])
+        with self.assertRaisesRegex(Failure, "^job 3 cannot be refused now, and waits: rmail at mysite still works on it"):
+            refuse._refuse(self.site, self.spool.parcels[3], "why")
+        self.assertEqual(([], True), (os.listdir(f"{self.folder}/refused"), 3 in self.spool.parcels))
+        self.put("etc/commands", commands)
+        self.put(f"pieces/a/{folder}/works")
+        self.spool.fails["done"] = SpoolError(3, "uuspool: spool: store")
+        self.assertRaises(Failure, self.give, 2000, "exec", "rmail", "joe", number=3)
+        with self.assertRaisesRegex(Failure, "^job 3 is delivered, and the spool could not note that yet"):
+            refuse._refuse(self.site, self.spool.parcels[3], "why")
+        self.spool.fails.clear()
+        self.assertEqual((0, 1), (self.deliverer.deliver(3), len(self.bytes_of("ran").splitlines())))
+
     def test_a_job_that_is_no_piece_is_kept_as_a_job(self) -> None:
         self.spool.parcels[1] = parcel(f"1 mysite a!ann N 2026-11-28 10:00:00 5 exec {COMMAND} x")
         self.assertEqual(0, self.deliverer.deliver(1))
@@ -559,6 +583,92 @@ class Newest(Refused):
         self.deliver(11)
         self.assertEqual({"x": "11", "x.2": "10"}, self.there())
 
+    def test_one_that_was_put_beside_is_replaced_by_none_of_its_new_name(self) -> None:
+        self.deliver(2)
+        self.assertEqual("mysite a!ann 1 delivered send /x ~/x, as ~/x.2", self.deliver(1))
+        for number, name in (3, "x.2.2"), (4, "x.2.3"):
+            self.put_in(number, "~/x.2")
+            for _ in range(2):
+                self.assertEqual(f"mysite a!ann {number} delivered send /x ~/x.2, as ~/{name}", self.deliver(number))
+        self.assertEqual({"x": "2", "x.2": "1", "x.2.2": "3", "x.2.3": "4"}, self.there())
+
+    def test_one_that_was_put_beside_where_another_was_replaced_before(self) -> None:
+        """The record knows the name, and then the file of it was removed, or has the bytes of the older one."""
+        for name, is_removed in ("x", True), ("y", False):
+            self.put_in(20, f"~/{name}.2")
+            self.deliver(20)
+            self.put_in(30, f"~/{name}")
+            self.deliver(30)
+            if is_removed:
+                os.remove(f"{self.folder}/public/a/{name}.2")
+            self.spool.parcels[21] = parcel(f"21 mysite a!ann N 2026-11-28 10:00:00 2 send /x ~/{name}", b"20")
+            self.assertEqual(f"mysite a!ann 21 delivered send /x ~/{name}, as ~/{name}.2", self.deliver(21))
+            self.put_in(40, f"~/{name}.2")
+            self.deliver(40)
+            self.assertEqual(["30", "20", "40"], [self.there()[it] for it in (name, f"{name}.2", f"{name}.2.2")])
+
+    def test_a_kill_before_one_is_put_beside(self) -> None:
+        """The name that it was to have is free, and costs nothing."""
+        self.put_in(0, "~/x.2")
+        self.deliver(0)
+        self.deliver(2)
+        os.remove(f"{self.folder}/public/a/x.2")
+        self.put_in(1)
+        link = os.link
+
+        def stopped(*words: Any, **named: Any) -> None:
+            if words[1] == "x.2":
+                raise Stopped
+            link(*words, **named)
+
+        with mock.patch("os.link", stopped), self.assertRaises(Stopped):
+            self.deliverer.deliver(1)
+        for number in 3, 4:  # (the second replaces the first)
+            self.put_in(number, "~/x.2")
+            self.deliver(number)
+        self.assertEqual("mysite a!ann 1 delivered send /x ~/x, as ~/x.3", self.deliver(1))
+        self.assertEqual({"x": "2", "x.2": "4", "x.3": "1"}, self.there())
+
+    def test_a_kill_once_one_is_put_beside(self) -> None:
+        self.put_in(0, "~/x.2")
+        self.deliver(0)
+        self.deliver(2)
+        os.remove(f"{self.folder}/public/a/x.2")
+        self.put_in(1)
+        link = os.link
+
+        def stopped(*words: Any, **named: Any) -> None:
+            link(*words, **named)
+            if words[1] == "x.2":
+                raise Stopped
+
+        with mock.patch("os.link", stopped), self.assertRaises(Stopped):
+            self.deliverer.deliver(1)
+        self.put_in(3, "~/x.2")
+        self.assertEqual("mysite a!ann 3 delivered send /x ~/x.2, as ~/x.2.2", self.deliver(3))
+        self.assertEqual("mysite a!ann 1 delivered send /x ~/x, as ~/x.2", self.deliver(1))
+        self.assertEqual({"x": "2", "x.2": "1", "x.2.2": "3"}, self.there())
+
+    def test_one_that_was_put_beside_while_neighbours_shared_a_folder(self) -> None:
+        shared, table = f"{self.folder}/public/a", f"a {self.folder}/public/a\n"
+        os.mkdir(shared)
+        self.put("etc/public", table + table.replace("a", "b", 1))
+        for number, user in (1, "a!ann"), (2, "b!bob"):
+            self.put_in(number, user=user)
+            self.deliver(number)
+        self.put("etc/public", table)
+        for number in 3, 4:
+            self.put_in(number, "~/x.2")
+            self.deliver(number)
+        self.assertEqual({"x": "1", "x.2": "2", "x.2.2": "3", "x.2.3": "4"}, self.there())
+
+    def test_names_with_numbers(self) -> None:
+        given = "x.2", "x.999", "d/x.10", "x.1", "x.1000", "x.02", "x.", "x", "x.2/y", "x.10000000", "x.\u0662"
+        self.assertEqual(given[:3], tuple(filter(public.has_number, given)))
+        for number in 1, 2:  # of which the newest is replaced, as of others
+            self.put_in(number, "~/ls.8")
+            self.assertEqual(f"mysite a!ann {number} delivered send /x ~/ls.8", self.deliver(number))
+
     def test_a_file_in_pieces_is_as_old_as_its_first_piece(self) -> None:
         self.give(0, "send", "/x", "~/x", number=1)
         self.give(1000, "send", "/x", "~/x", number=2)
@@ -585,6 +695,10 @@ class Newest(Refused):
             self.assertTrue(all(newest.note(path, "w1", f"{number}", number) for number in numbers))
             self.assertLess(os.stat(path).st_size, 40_000)
             self.assertEqual([False, False, True, False, True], [newest.note(path, "w1", name, number) for name, number in (("100", 99), ("new", 150), ("new", 300), ("1299", 1298), ("1299", 1299))])
+            newest.note(path, "w1", "x.2", 1300)
+            self.assertEqual(1000, len(newest._read(path, "w1")[1]))
+            newest.forget(path, "w1", "x.2")
+            self.assertEqual([False, True, False], [newest.note(path, "w1", name, number, is_there=True) for name, number in (("x.2", 1301), ("x", 1301), ("100.2", 2000))])
 
     def test_a_record_that_is_damaged_or_cannot_be_written(self) -> None:
         for text in "x", "[]", '{"word": "w1"}', '{"word": "w1", "others": 0, "names": []}', '{"word": "w1", "others": 0, "names": {"a": "x"}}':

@@ -1,4 +1,5 @@
 """The public folder, while somebody puts links there, and where mail may go."""
+import contextlib
 import os
 import time
 from functools import partial
@@ -218,6 +219,16 @@ class Public(Folder):
         self.give(self.put("public/duke/root", "ann's"))
         with memory_file(b"new") as content:
             self.assertEqual("~/root.2", duke.put("~/root", content))
+
+    def test_a_neighbour_alone_replaces_none_that_has_a_number(self) -> None:
+        """(Its own file of the name with the number, or an older one of the name.)"""
+        duke = public.Public(f"{self.folder}/public", "mysite", "duke")
+        for path, data, put in ("~/x.2", b"1", "~/x.2"), ("~/x", b"2", "~/x.3"), ("~/x", b"3", "~/x.4"), ("~/x", b"2", "~/x.3"), ("~/x.2", b"4", "~/x.2"):
+            with memory_file(data) as content:
+                self.assertEqual(put, duke.put(path, content))
+            with contextlib.suppress(FileExistsError):
+                os.symlink("nowhere", f"{self.folder}/public/duke/x")
+        self.assertEqual([b"4", b"2", b"3"], [self.bytes_of(f"public/duke/x.{it}") for it in (2, 3, 4)])
 
     def test_the_folder_of_a_neighbour_has_to_be_the_sites(self) -> None:
         self.put("public/file")

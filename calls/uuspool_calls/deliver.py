@@ -17,7 +17,7 @@ from collections.abc import Sequence
 from functools import partial
 
 from . import cli, clock, executions, files, outgoing, pieces, records, refusals, works
-from .delivery import Asked, Delivery, Outcome
+from .delivery import Asked, Delivery, Outcome, StillWorks
 from .errors import LATER, USAGE, Delay, Failure, Refusal, SpoolError, spool_needed
 from .jobs import REQUEST, Delivered, Job, Parcel
 from .letters import Mailroom, NotSent
@@ -233,7 +233,7 @@ class Deliverer:
             with files.memory_file(parcel.data) as content:
                 outcome = self._hand_over(self._delivered(tries.of(parcel.job), content), parcel.job)
         except Refusal as refusal:
-            return self.give_up(parcel, str(refusal))
+            return self._refuse(parcel, str(refusal), now)
         except Delay as delay:
             return self._fail(parcel, str(delay), now)
         return self._finish(parcel.job, outcome, tries, now)
@@ -322,10 +322,12 @@ class Deliverer:
 
     def give_up(self, parcel: Parcel, why: str) -> int:
         """Refuses a job, and if it is a piece, its file as far as it came. If that can't be now it waits, and the jobs
-        after it are still tried."""
+        after it are still tried. StillWorks if its command works, because that may end well."""
         try:
             with files.memory_file(parcel.data) as content:
                 is_kept = self._delivery.set_aside(self._delivered(parcel.job, content), why)
+        except StillWorks:
+            raise
         except (OSError, Delay) as error:
             self._site.session.say(f"job {parcel.job.number} cannot be refused now, and waits: {error}")
             return LATER
@@ -335,10 +337,23 @@ class Deliverer:
             records.forget(self._folder, parcel.job.number)
         return 0
 
+    def has_come(self, parcel: Parcel) -> bool:
+        """Whether a job, or the file of which it is a piece, was delivered, and the spool couldn't note that yet."""
+        tries = records.Tries.read(self._folder, self._site.word(), parcel.job, clock.now())
+        return tries.came != "" or self._delivery.has_come(self._delivered(parcel.job, -1))
+
+    def _refuse(self, parcel: Parcel, why: str, now: int) -> int:
+        """Refuses a job, or tries it later if its command still works."""
+        try:
+            return self.give_up(parcel, why)
+        except StillWorks as delay:
+            tries = records.Tries.read(self._folder, self._site.word(), parcel.job, now)
+            return self._try_later(parcel.job, tries.after_failure(str(delay), now))
+
     def _fail(self, parcel: Parcel, why: str, now: int) -> int:
         tries = records.Tries.read(self._folder, self._site.word(), parcel.job, now)  # (with what its delivery noted)
-        if tries.is_old(now):
-            return self.give_up(parcel, f"it could not be delivered for {records.DAYS} days: {why}")
+        if tries.is_old(now) and not tries.came:
+            return self._refuse(parcel, f"it could not be delivered for {records.DAYS} days: {why}", now)
         return self._try_later(parcel.job, tries.after_failure(why, now))
 
     def _try_later(self, job: Job, tries: records.Tries) -> int:

@@ -17,6 +17,10 @@ _KILLED = 137
 _PATIENCE = 60  # seconds for another file of the sender to get its name
 
 
+class StillWorks(Delay):
+    """The command of a job works, though what began it is gone. So the job is neither delivered nor refused now."""
+
+
 class Outcome(NamedTuple):
     """What became of a job."""
 
@@ -53,14 +57,14 @@ class Delivery:
         if job.kind == "exec":
             self._run(job)
             return Outcome(job.what)
-        put = self.public_of(job.sender).put(job.words[1], job.content, partial(self._is_newest, job))
+        put = self.public_of(job.sender).put(job.words[1], job.content, partial(self._names, job))
         return Outcome(job.what + _other(job.words[1], put), wishes=Wishes.read(job.words[2:]))
 
     def _expect_at_rest(self, job: Delivered) -> None:
-        """Delay if a command works on a job, though what began it is gone. What that left of it is ended."""
+        """StillWorks if a command works on a job, though what began it is gone. What that left of it is ended."""
         if job.working:
             if works.is_so(job.working):
-                raise Delay(f"{job.words[0]} at {self._own} still works on it, though what began it was ended")
+                raise StillWorks(f"{job.words[0]} at {self._own} still works on it, though what began it was ended")
             works.end_left(job.working)
 
     def _expect_allowed(self, job: Delivered) -> None:
@@ -101,21 +105,35 @@ class Delivery:
         return public.find(common, f"{self._session.etc}/public", sender, self._own)
 
     @contextlib.contextmanager
-    def _is_newest(self, job: Delivered, name: str) -> Iterator[bool]:
-        """Whether no newer job of the sender put a file of this name. No other one puts a file meanwhile."""
+    def _names(self, job: Delivered, name: str) -> Iterator[public.Names]:
+        """The record of the names of the sender's files, for a file of this name. No other job puts a file meanwhile."""
         from . import newest  # (which few jobs need)
 
         sender = job.sender or self._own
-        path = f"{self._folder}/deliver/.{sender}.files"
+        path, word = f"{self._folder}/deliver/.{sender}.files", self._asked.word
+        needed = partial(self._record_needed, name, path)
+
+        def replaces(name: str, is_there: bool) -> bool:
+            with needed():
+                return newest.note(path, word, name, job.number, is_there)
+
+        def put_beside(name: str) -> None:
+            with needed():
+                newest.forget(path, word, name)
+
         with contextlib.ExitStack() as held:
-            try:
+            with needed():
                 lock = held.enter_context(files.Lock(f"{path}.lock"))
                 if not lock.wait(_PATIENCE, self._session.processes.pause):
                     raise Delay(f"{name} waits at {self._own} for another file of {sender}")
-                is_newest = newest.note(path, self._asked.word, name, job.number)
-            except OSError as error:
-                raise Delay(f"{name} waits at {self._own}, because {path} cannot be written: {error.strerror}") from None
-            yield is_newest
+            yield public.Names(replaces, put_beside)
+
+    @contextlib.contextmanager
+    def _record_needed(self, name: str, path: str) -> Iterator[None]:
+        try:
+            yield
+        except OSError as error:
+            raise Delay(f"{name} waits at {self._own}, because {path} cannot be written: {error.strerror}") from None
 
     def _pieces_of(self, job: Delivered) -> Pieces:
         folder = f"{self._folder}/pieces/{job.sender or self._own}"
@@ -172,13 +190,23 @@ class Delivery:
             raise cannot_be_kept(_piece(job), self._folder, error) from None
         return job.name
 
+    def has_come(self, job: Delivered) -> bool:
+        """Whether a job is a piece of a file that was delivered."""
+        if job.kind != "exec" or Piece.read(job.words) is None:
+            return False
+        with self._held(job) as file:
+            return file.about.came != ""
+
     def set_aside(self, job: Delivered, why: str) -> bool:
-        """Refuses the file of which a job is a piece, as far as it came. Whether it is one."""
+        """Refuses the file of which a job is a piece, as far as it came. Whether it is one. StillWorks if a command works on the job,
+        or on the file."""
+        self._expect_at_rest(job)
         if job.kind != "exec" or Piece.read(job.words) is None:
             return False
         with self._held(job) as file:
             if file.about.came:
                 return True
+            self._expect_at_rest(job._replace(words=file.about.piece.words[1:], working=file.working))
             with contextlib.suppress(Refusal, Delay, OSError):
                 file.take(_piece(job), job.content)
             if not file.is_refused:

@@ -14,6 +14,7 @@ from collections.abc import Callable, Iterator, Sequence
 from . import clock
 from .errors import Delay, Refusal
 from .files import closing, copy_all, look, opened, read_bytes
+from .values import NamedTuple
 
 _OPEN_FOLDER = os.O_RDONLY | os.O_DIRECTORY | os.O_NOFOLLOW | os.O_CLOEXEC
 _PASS_FOLDER = os.O_PATH | os.O_DIRECTORY | os.O_NOFOLLOW | os.O_CLOEXEC
@@ -27,12 +28,28 @@ MARK = ".uuspool"  # in the folder of a neighbour. No path of a job has such a n
 _AHEAD = 2 * 86400  # seconds by which the mark is newer than any file there
 _CANNOT_BE_NAMELESS = (errno.EOPNOTSUPP, errno.EISDIR, errno.ENOENT)  # a file, on this disk
 _SIGNS = frozenset("'\"\\")  # that no name has
-_MOST_NUMBERS = 1000
+_FIRST_NUMBER, _MOST_NUMBERS = 2, 1000
 _NEW = ".new."  # begins the name of a file that gets its own when it is whole
 _LEFT = 86400  # seconds after which such a file is what a kill left
 _BLOCK = 1 << 20
 
-IsNewest = Callable[[str], contextlib.AbstractContextManager[bool]]  # whether no newer file of a name came; none comes meanwhile
+
+class Names(NamedTuple):
+    """What is known of the names that files of a sender have, by paths below its folder."""
+
+    replaces: Callable[[str, bool], bool]  # whether a new file takes a name from a file of the sender. It is said if one is there
+    put_beside: Callable[[str], None]  # a file gets a name with a number, which none takes from it
+
+
+Held = Callable[[str], contextlib.AbstractContextManager[Names]]  # the names, for the file of one. No other file gets any meanwhile
+_ALWAYS = Names(lambda name, is_there: True, lambda name: None)
+_NEVER = Names(lambda name, is_there: False, lambda name: None)
+
+
+def has_number(name: str) -> bool:
+    """Whether a file may have got its name because another one had the name without the number."""
+    number = name.rpartition(".")[2]
+    return number.isascii() and number.isdecimal() and number[0] != "0" and _FIRST_NUMBER <= int(number[:4]) < _MOST_NUMBERS
 
 
 def find(environment_folder: str, table: str, neighbour: str, own: str) -> "Public":
@@ -126,9 +143,10 @@ class Public:
         self._others = others  # where files of other neighbours come
         self._is_alone = is_alone or bool(neighbour)
 
-    def put(self, path: str, content: int, is_newest: IsNewest = lambda name: contextlib.nullcontext(True)) -> str:
+    def put(self, path: str, content: int, held: Held = lambda name: contextlib.nullcontext(_ALWAYS)) -> str:
         """Writes the bytes of an open file to a path, or to one with a number, and says to which. The file, and
-        each missing folder on the way, are on the disk before this ends. It replaces none that is newer than it."""
+        each missing folder on the way, are on the disk before this ends. It replaces none that is newer than it, and none that was
+        put beside another one."""
         expect_inside(path, self._own)
         below = path.removeprefix("~/")
         *folders, name = below.split("/")
@@ -137,8 +155,9 @@ class Public:
                 for folder in folders:
                     at = on_the_way.enter_context(_entered(at, folder))
                     self._expect_ours(at, path)
-                with _New(at, content) as new, is_newest(below) if self._is_alone else contextlib.nullcontext(False) as replaces:
-                    named = new.take(name, replaces)
+                with _New(at, content) as new, held(below) if self._is_alone else contextlib.nullcontext(_NEVER) as names:
+                    replaces = names.replaces(below, look(name, at, follows=False) is not None)
+                    named = new.take(name, replaces, lambda numbered: names.put_beside(below.removesuffix(name) + numbered))
         except _LeadsOut:
             raise Refusal(f"{path} is a folder, or leads out of the public folder of {self._own}") from None
         except OSError as error:
@@ -275,16 +294,22 @@ class _New:
             with contextlib.suppress(OSError):
                 os.remove(self._name, dir_fd=self._folder)
 
-    def take(self, name: str, replaces: bool) -> str:
-        """Takes a name, or the first with a number that no other file has. A file that has these bytes already
-        is that of a job that comes again after a stop."""
+    def take(self, name: str, replaces: bool, put_beside: Callable[[str], None]) -> str:
+        """Takes a name, or the first with a number that no other file has, which is said before. A file that has these bytes
+        already is that of a job that comes again after a stop."""
         if _is_folder(self._folder, name):
             raise _LeadsOut
-        for number in range(1, _MOST_NUMBERS):
-            numbered = f"{name}.{number}" if number > 1 else name
-            if self._takes(numbered, replaces):
-                os.fsync(self._folder)
-                return numbered
+        named = name if self._takes(name, replaces) else self._take_beside(name, put_beside)
+        os.fsync(self._folder)
+        return named
+
+    def _take_beside(self, name: str, put_beside: Callable[[str], None]) -> str:
+        for number in range(_FIRST_NUMBER, _MOST_NUMBERS):
+            numbered = f"{name}.{number}"
+            if look(numbered, self._folder, follows=False) is None or self._is_at(numbered):
+                put_beside(numbered)
+                if self._takes(numbered, replaces=False):
+                    return numbered
         raise OSError(errno.EEXIST, f"there are {_MOST_NUMBERS} files of this name")
 
     def _takes(self, name: str, replaces: bool) -> bool:
@@ -293,13 +318,17 @@ class _New:
             return True
         except FileExistsError:
             if not replaces:
-                return _is_ours(self._folder, name) and _has_bytes(self._folder, name, self._content)
+                return self._is_at(name)
         if not _is_ours(self._folder, name):
             return False
         new = _name_of_a_new_file(self._folder)
         self._link(new)
         os.replace(new, name, src_dir_fd=self._folder, dst_dir_fd=self._folder)
         return True
+
+    def _is_at(self, name: str) -> bool:
+        """Whether a file of this name has these bytes already."""
+        return _is_ours(self._folder, name) and _has_bytes(self._folder, name, self._content)
 
     def _link(self, name: str) -> None:
         if self._name:

@@ -3,7 +3,7 @@ from collections.abc import Sequence
 
 from . import moves, records
 from .deliver import LOCK, Deliverer
-from .errors import LATER, USAGE, Failure
+from .errors import LATER, USAGE, Delay, Failure
 from .jobs import Parcel
 from .refusals import Refuser, tell
 from .session import Session
@@ -33,7 +33,7 @@ def _parcel(site: Site, number: int) -> Parcel:
 
 
 def _refuse(site: Site, parcel: Parcel, why: str) -> bool:
-    """A piece that came here is refused with what came before. What is being delivered isn't refused."""
+    """A piece that came here is refused with what came before. What is being delivered isn't refused, nor what is delivered."""
     number = parcel.job.number
     if parcel.job.system != site.own:
         with site.alone():
@@ -42,4 +42,10 @@ def _refuse(site: Site, parcel: Parcel, why: str) -> bool:
     with site.lock(f"deliver/{number}{LOCK}") as lock:
         if not lock.take():
             raise Failure(LATER, f"job {number} is being delivered: repeat this if it still waits then")
-        return Deliverer(site).give_up(_parcel(site, number), why) == 0
+        deliverer, parcel = Deliverer(site), _parcel(site, number)
+        try:
+            if deliverer.has_come(parcel):
+                raise Failure(LATER, f"job {number} is delivered, and the spool could not note that yet: uuspool-deliver {number} notes it")
+            return deliverer.give_up(parcel, why) == 0
+        except Delay as delay:
+            raise Failure(LATER, f"job {number} cannot be refused now, and waits: {delay}") from None
