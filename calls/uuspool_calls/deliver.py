@@ -219,6 +219,7 @@ class Deliverer:
                 return LATER
             parcel = self._site.spool.show(number)
             if parcel is None:
+                records.forget(self._folder, number)
                 return 0
             if parcel.job.system != self._own:
                 raise Failure(USAGE, f"job {number} waits for {parcel.job.system}, not for this site")
