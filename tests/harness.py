@@ -18,7 +18,7 @@ TOP = os.path.dirname(os.path.dirname(os.path.realpath(__file__)))
 # What rt ci leaves: a program of each compiler.
 PROGRAMS = tuple(f"{TOP}/crates/uuspool_main/out/{name}" for name in ("uuspool_main", "uuspool_main.by-rattle"))
 SETTINGS = f"{TOP}/examples/uuspool.toml"
-LIMIT = 300  # seconds for one run of the program
+LIMIT = 900  # seconds for one run of the program
 FILES = ("spool.db", "spool.db-wal")
 WORD = "-"  # the word of a test's spool, so that its bundles are the same each time
 KEPT = ("database", "log")  # the same files in a folder of tests/spools
