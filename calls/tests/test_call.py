@@ -4,7 +4,7 @@ import re
 from contextlib import suppress
 from unittest import mock
 
-from uuspool_calls import answer, call, carriers, clock, executions, forecast
+from uuspool_calls import answer, call, carriers, clock, executions, forecast, handover
 from uuspool_calls.errors import Failure, SpoolError, Stopped
 from uuspool_calls.processes import Ended, Program, Watch
 from uuspool_calls.spool import Due, Settled, Unpacked
@@ -238,6 +238,16 @@ class Calls(Folder):
             self.make([JOB, NOTHING], b"")
         self.assertEqual(("done", "duke"), self.spool.asked[-1])
 
+    def test_what_a_bundle_brought_is_taken_back_from_taylor_uucp(self) -> None:
+        """The neighbour has both. First, what was killed or moved here."""
+        for notes, settled, count in ((), (3,), 0), (("3.json",), (), 1), (("3.json",), (3,), 2):
+            for name in notes:
+                self.put(f"taylor/duke/{name}")
+            self.spool.settled = Settled(settled, ())
+            with mock.patch.object(handover, "take_back") as takes:
+                self.make([JOB, NOTHING], BACK)
+            self.assertEqual([mock.call(self.site, "duke")] * count, takes.call_args_list, (notes, settled))
+
     def test_no_answer_counts_as_done(self) -> None:
         self.make([JOB], b"")
         self.assertEqual(("done", "duke"), self.spool.asked[-1])
@@ -334,6 +344,17 @@ class Forecasts(Folder):
 
 
 class Answers(Folder):
+    def test_what_a_bundle_brought_is_taken_back_from_taylor_uucp(self) -> None:
+        for notes, count in ((), 0), (("3.json",), 1):
+            for name in notes:
+                self.put(f"taylor/duke/{name}")
+            spool = StandIn()
+            spool.settled, spool.bundles = Settled((3,), ()), [Ended(0, NOTHING, b"")]
+            made = site(self.folder, spool)
+            with mock.patch.object(handover, "take_back") as takes, mock.patch.object(answer, "_read", return_value=BACK), mock.patch.object(Mailer, "write_output") as written:
+                answer._answer(made.session, made, "duke", [])
+            self.assertEqual(([mock.call(made, "duke")] * count, 1), (takes.call_args_list, len(written.call_args_list)))
+
     def test_its_words_alone_say_who_calls(self) -> None:
         """(Taylor's uuxqt would say it by a variable, and nobody runs that.)"""
         made = site(self.folder, StandIn(), UU_MACHINE="unc", UU_USER="joe")

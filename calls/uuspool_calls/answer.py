@@ -49,6 +49,10 @@ def _answer(session: Session, site: Site, sender: str, onward: Sequence[str]) ->
     except NotTaken as why:
         raise Failure(LATER, str(why)) from None
     session.processes.write_output(1, neighbour.reply_to(text, taken), session.call_limit)
+    if site.has_handed(sender):
+        from . import handover  # (which few neighbours need)
+
+        handover.take_back(site, sender)
     if fault := taken.later or taken.fault:
         raise Failure(LATER, fault)
 

@@ -86,6 +86,16 @@ def run(session: Session, words: Sequence[str]) -> int:
         raise Failure(LATER, f"{carrier.port}, the port of {order.neighbour}, is in use by another call")
 
 
+def take_back(session: Session, words: Sequence[str]) -> int:
+    """By night, also for a neighbour that isn't called: Taylor UUCP brings nothing that doesn't wait here any more."""
+    from . import handover  # (which only rounds need of a site with Taylor UUCP)
+
+    site = enter(session)
+    session.processes.catch_stops()
+    handover.take_back(site, words[0])
+    return 0
+
+
 @contextmanager
 def _at_port(site: Site, carrier: carriers.Carrier) -> Iterator[bool]:
     """Waits until no other call uses the port of this one, and says whether none does."""
@@ -150,6 +160,7 @@ class Call:
         """Makes the call."""
         self._site.session.processes.catch_stops()
         finish_begun(self._site, self._order.neighbour)
+        self._take_back()
         first = self._neighbour.pack(self._order.options())
         if self._is_nothing_new(first):
             return 0
@@ -262,12 +273,21 @@ class Call:
         here = 0 if came_before else taken.unpacked.jobs
         self._there += len(taken.settled.done)
         self._here += here
+        if taken.settled.done:
+            self._take_back()
         if self._progress:
             self._progress.count(taken.settled.done, here)
         if taken.own_fault:
             self._site.session.say(taken.own_fault)
         if taken.faults or taken.later:
             self._why = taken.later or taken.faults[-1]
+
+    def _take_back(self) -> None:
+        """What Taylor UUCP has and a bundle brought, or nobody is to get any more, isn't brought by it."""
+        if self._site.has_handed(self._order.neighbour):
+            from . import handover  # (which few neighbours need)
+
+            handover.take_back(self._site, self._order.neighbour)
 
     def _carry(self, ours: bytes) -> tuple[Ended, bool]:
         """Runs the carrier. What it and the neighbour's programs say goes into the log."""

@@ -39,9 +39,18 @@ def run(session: Session, words: Sequence[str]) -> int:
         if not lock.wait(_PATIENCE, session.processes.pause):
             raise Failure(LATER, f"{origin} is being called by another process")
         parts = _move_all(site, origin, target, set(map(int, numbers)), keeps)
+    _take_back(site, origin)
     for part in parts:
         session.say(f"job {part.job.number} stays for {origin}, because a file moves only while all of its pieces wait: {part.what}")
     return LATER if parts else 0
+
+
+def _take_back(site: Site, origin: str) -> None:
+    """What moved isn't brought by Taylor UUCP, too."""
+    if site.has_handed(origin):
+        from . import handover  # (which few moves need)
+
+        handover.take_back(site, origin)
 
 
 def _move_all(site: Site, origin: str, target: str, numbers: set[int], keeps: bool) -> list[Listed]:

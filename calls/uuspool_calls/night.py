@@ -72,6 +72,7 @@ class Night:
         processes, at_once = self._site.session.processes, self._site.session.at_once
         with Children(processes, 1) as deliveries, Children(processes, at_once) as calls:
             deliveries.start(partial(self._forked, "uuspool-deliver", deliver.run))
+            self._take_back(calls)
             due = self._due()
             self._call(calls, "-n", due)
             self._call(calls, "-np", self._quiet(minutes, due))
@@ -87,6 +88,15 @@ class Night:
         files.touch_if_possible(mark)
         with spool_needed("the spool's file cannot be made shorter"):
             self._site.spool.ask_once("vacuum")
+
+    def _take_back(self, calls: Children) -> None:
+        """What Taylor UUCP has and doesn't wait here any more is taken back, also if its neighbour isn't due: Taylor makes calls of its own,
+        and answers those of neighbours."""
+        if handed := self._site.handed():
+            from . import call
+
+            for neighbour in handed:
+                calls.start(partial(self._forked, "uuspool-call", call.take_back, neighbour))
 
     def _call(self, calls: Children, option: str, neighbours: Sequence[str]) -> None:
         """Calls these neighbours. (Most rounds call nobody, so this is loaded late, and once for all calls.)"""

@@ -11,10 +11,12 @@ from .journal import Journal
 from .processes import Program
 from .session import Session, user_name
 from .spool import Spool
+from .texts import is_name
 
 _MOST_OF_A_WORD = 1 << 12  # bytes
 _PATIENCE = 60  # seconds for others that move, refuse or settle jobs
 ROUND = "deliver/round"  # the file whose time is that of the last round of a night
+HANDED = "taylor"  # the folder of what Taylor UUCP has, by neighbours: notes of jobs
 VACUUM = "deliver/vacuum"  # the file whose time is when a night last gave back the room of the spool's file
 
 
@@ -56,6 +58,14 @@ class Site:
     def onward(self, neighbour: str) -> list[str]:
         """The systems for which mail from a neighbour is handed on."""
         return list(forward.read(f"{self.etc}/forward", neighbour).systems)
+
+    def has_handed(self, neighbour: str) -> bool:
+        """Whether notes say that Taylor UUCP may have jobs for a neighbour."""
+        return any(name.endswith(".json") for name in files.names_in(f"{self.folder}/{HANDED}/{neighbour}"))
+
+    def handed(self) -> list[str]:
+        """The neighbours for which Taylor UUCP may have jobs."""
+        return [name for name in files.names_in(f"{self.folder}/{HANDED}") if is_name(name) and self.has_handed(name)]
 
     def lock(self, path: str) -> files.Lock:
         """The lock of a file below the folder."""
