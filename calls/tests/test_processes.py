@@ -61,6 +61,10 @@ class Programs(Folder):
         with open("/dev/null", "rb") as file:
             os.set_inheritable(file.fileno(), True)
             self.assertEqual(b"0\n1\n2\n", self.sh("ls /proc/$$/fd").output)
+            with open("/dev/null", "rb") as other, open("/dev/null", "rb") as third:
+                kept = third.fileno(), file.fileno()
+                self.assertEqual({0, 1, 2, *kept}, set(map(int, self.sh("ls /proc/$$/fd", keeps=kept).output.split())), other)
+                self.assertFalse(os.get_inheritable(third.fileno()))
         self.assertEqual([0, 0], self.blocked_and_ignored())
         signal.signal(signal.SIGHUP, signal.SIG_IGN)
         self.assertEqual([0, 1 << signal.SIGHUP - 1], self.blocked_and_ignored())

@@ -1,13 +1,19 @@
 """What the spool is asked, and what its answers mean; and the log."""
 import os
+import signal
+import time
+from collections.abc import Callable
 
+from uuspool_calls import deliver, refuse
 from uuspool_calls.errors import Failure, SpoolError
+from uuspool_calls.files import Lock
 from uuspool_calls.jobs import Job
 from uuspool_calls.journal import Journal
-from uuspool_calls.processes import Ended, Processes, Program
+from uuspool_calls.processes import Child, Ended, Processes, Program
+from uuspool_calls.site import Site
 from uuspool_calls.spool import Due, Queued, Refused, Spool
 
-from .standins import LINE, Folder
+from .standins import LINE, Folder, StandIn, parcel, site
 
 FAILED = Ended(3, b"", b"uuspool: spool: store\nuuspool: cause: no space left\n")
 
@@ -108,6 +114,45 @@ class Spools(Folder):
     def test_queued_again(self) -> None:
         self.assertEqual("job 9", self.spool(b"job 9\n").queue_again(Job.read(LINE), "a!7!again", "unc", ["rmail", "-x"], b""))
         self.assertEqual(["--as=ann", "exec", "-gN", "--once=a!7!again", "--", "unc", "rmail", "-x"], self.answers.words[0])
+
+
+class Kills(Folder):
+    """A line of the program that waits for its turn while what began it is killed."""
+
+    def test_it_keeps_the_lock_under_which_it_was_begun(self) -> None:
+        def alone(here: Site) -> None:
+            with here.alone():
+                here.spool.kill(Job.read(LINE))
+
+        of_a_job = "deliver/7.lock"
+        own = parcel(LINE.replace("duke", "mysite"))
+        for path, work in (
+            ("moves/.lock", alone),
+            (of_a_job, lambda here: deliver.Deliverer(here).deliver(7)),
+            (of_a_job, lambda here: deliver.Deliverer(here).note_killed(7, 9)),
+            (of_a_job, lambda here: refuse._refuse(here, own, "why")),
+        ):  # fmt: skip
+            self.expect_kept(path, work)
+
+    def expect_kept(self, path: str, work: Callable[[Site], object]) -> None:
+        """Others get a lock only once the line has ended."""
+        for name in "begun", "may-end":
+            os.mkfifo(f"{self.folder}/{name}")
+        waits = self.put("waits", "#!/bin/sh\necho now >begun\nread _ <may-end\n", 0o755)
+        here = site(self.folder, StandIn())
+        here.spool = Spool([waits], self.folder, dict(os.environ), Processes())
+        child = Child(lambda: work(here) and 1 or 0)
+        with open(f"{self.folder}/begun", encoding="ascii") as begun:
+            begun.read()
+        child.kill()
+        self.assertEqual(128 + signal.SIGKILL, child.wait())
+        with Lock(f"{self.folder}/{path}") as lock:
+            self.assertFalse(lock.take(), path)
+            with open(f"{self.folder}/may-end", "w", encoding="ascii") as may_end:
+                may_end.write("now\n")
+            self.assertTrue(lock.wait(60, time.sleep), path)
+        for name in "begun", "may-end":
+            os.remove(f"{self.folder}/{name}")
 
 
 class Journals(Folder):

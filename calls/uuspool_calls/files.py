@@ -177,23 +177,24 @@ def names_in(folder: str) -> list[str]:
 
 
 class Lock:
-    """The lock of a file. A process that ends gives it back, and no program that it starts has it."""
+    """The lock of a file. A process that ends gives it back. No program that it starts has it, but lines of the spool
+    (`Spool.keeping`), which then give it back when they end."""
 
     def __init__(self, path: str) -> None:
         self.path = path
-        self._handle = os.open(path, os.O_RDWR | os.O_CREAT | os.O_APPEND | os.O_CLOEXEC, 0o600)
+        self.handle = os.open(path, os.O_RDWR | os.O_CREAT | os.O_APPEND | os.O_CLOEXEC, 0o600)
 
     def take(self) -> bool:
         """Takes the lock, unless another process has it."""
         try:
-            fcntl.flock(self._handle, fcntl.LOCK_EX | fcntl.LOCK_NB)
+            fcntl.flock(self.handle, fcntl.LOCK_EX | fcntl.LOCK_NB)
         except BlockingIOError:
             return False
         return True
 
     def give_back(self) -> None:
-        """Gives it back before this process ends, also for those that were forked from it."""
-        fcntl.flock(self._handle, fcntl.LOCK_UN)
+        """Gives it back before this process ends, also for all that have it from this one."""
+        fcntl.flock(self.handle, fcntl.LOCK_UN)
 
     def wait(self, seconds: float, pause: Callable[[float], None]) -> bool:
         """Waits for the lock."""
@@ -208,14 +209,14 @@ class Lock:
         """Whether the path still is this file. Whoever had the lock may have removed it, and then another
         process may have the lock of a new one."""
         with contextlib.suppress(FileNotFoundError):
-            return os.path.samestat(os.fstat(self._handle), os.stat(self.path))
+            return os.path.samestat(os.fstat(self.handle), os.stat(self.path))
         return False
 
     def __enter__(self) -> Self:
         return self
 
     def __exit__(self, *error: object) -> None:
-        os.close(self._handle)
+        os.close(self.handle)
 
 
 @contextlib.contextmanager
