@@ -1,8 +1,10 @@
 """What the spool is asked, and what its answers mean; and the log."""
+import errno
 import os
 import signal
 import time
 from collections.abc import Callable
+from unittest import mock
 
 from uuspool_calls import deliver, refuse
 from uuspool_calls.errors import Failure, SpoolError
@@ -54,6 +56,15 @@ class Spools(Folder):
             with self.assertRaises(SpoolError) as raised:
                 self.spool(Ended(status, output, errors)).ask("send")
             self.assertEqual((said, True, 0), (str(raised.exception), raised.exception.is_final, self.answers.pauses))
+
+    def test_a_spool_for_which_no_process_can_be_begun_has_failed(self) -> None:
+        """A stop ends this process afterwards as before."""
+        processes = Processes()
+        spool = Spool(["/uuspool"], self.folder, {}, processes)
+        with mock.patch("os.fork", side_effect=BlockingIOError(errno.EAGAIN, "no room")), self.assertRaises(SpoolError) as raised:
+            spool.ask_once("done", "--", "duke")
+        self.assertEqual(("/uuspool cannot be run: no room", 75, False), (str(raised.exception), raised.exception.status, raised.exception.is_final))
+        self.assertFalse(signal.pthread_sigmask(signal.SIG_BLOCK, ()) & {signal.SIGHUP, signal.SIGINT, signal.SIGTERM})
 
     def test_a_fault_of_the_settings_or_of_the_clock_is_none_of_the_job(self) -> None:
         for said in "uuspool: settings: name bad", "uuspool: time: MomentRange":

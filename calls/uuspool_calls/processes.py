@@ -44,10 +44,12 @@ class Child:
     def __init__(self, work: Callable[[], int], shielded: bool = False) -> None:
         # (A stop of the child mustn't be taken for one of this process, whose answer to it the child has at first.)
         before = signal.pthread_sigmask(signal.SIG_BLOCK, _STOPS)
-        self.pid = os.fork()
-        if self.pid == 0:
-            _end_with(work, {*before, *_STOPS} if shielded else before)
-        signal.pthread_sigmask(signal.SIG_SETMASK, before)
+        try:
+            self.pid = os.fork()
+            if self.pid == 0:
+                _end_with(work, {*before, *_STOPS} if shielded else before)
+        finally:
+            signal.pthread_sigmask(signal.SIG_SETMASK, before)
 
     def wait(self) -> int:
         """Its status, once it has ended: 128 + N after signal N."""

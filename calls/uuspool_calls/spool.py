@@ -104,8 +104,11 @@ class Spool:
             self._keeps = before
 
     def run(self, words: Sequence[str], given: bytes | int = b"") -> Ended:
-        """Does a line."""
-        return self._processes.run(Program([*self._command, *words], self._folder, self._environment, keeps=self._keeps), given)
+        """Does a line. If no process can be begun now, the spool has failed."""
+        try:
+            return self._processes.run(Program([*self._command, *words], self._folder, self._environment, keeps=self._keeps), given)
+        except OSError as error:
+            return Ended(LATER, b"", f"{self._command[0]} cannot be run: {error.strerror}\n".encode())
 
     def ask_once(self, *words: str, given: bytes | int = b"") -> bytes:
         """The answer to a line."""
