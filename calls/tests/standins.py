@@ -1,4 +1,5 @@
 """What stands for a session, a site and its spool."""
+import contextlib
 import os
 import shutil
 import tempfile
@@ -7,6 +8,7 @@ import unittest
 from collections.abc import Callable, Sequence
 
 from uuspool_calls.errors import SpoolError
+from uuspool_calls.files import Lock
 from uuspool_calls.jobs import Job, Parcel
 from uuspool_calls.processes import Ended, Processes
 from uuspool_calls.session import Session
@@ -108,6 +110,10 @@ class StandIn:
         self.asked.append(words)
         if words[0] in self.fails:
             raise self.fails[words[0]]
+
+    def keeping(self, lock: Lock) -> contextlib.AbstractContextManager[None]:
+        """No line of it outlives this process."""
+        return contextlib.nullcontext()
 
     def run(self, words: Sequence[str], given: bytes | int = b"") -> Ended:
         """`pack` and `answer`: the next of these bundles."""

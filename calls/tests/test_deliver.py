@@ -1,4 +1,5 @@
 """Deliveries: commands, tries, and what is due."""
+import errno
 import json
 import os
 import time
@@ -173,12 +174,12 @@ class Clean(Folder):
     def test_old_records_of_jobs_that_are_gone(self) -> None:
         spool = StandIn([parcel()])
         here = site(self.folder, spool)
-        for name in "7", "7.lock", "8", "8.lock", "8.works", "9", "keys", "round":
+        for name in "7", ".7.new", "7.lock", "8", ".8.new", "8.lock", "8.works", "9", "keys", "round":
             self.put(f"deliver/{name}")
             os.utime(f"{self.folder}/deliver/{name}", (time.time() - 7200,) * 2)
         self.put("deliver/9")
         deliver._clean(here, [parcel().job])
-        self.assertEqual(["7", "7.lock", "9", "round"], sorted(os.listdir(f"{self.folder}/deliver")))
+        self.assertEqual([".7.new", "7", "7.lock", "9", "round"], sorted(os.listdir(f"{self.folder}/deliver")))
         self.assertEqual([("forget", "--", "mysite", "7")], spool.asked)
 
     def test_a_clock_that_jumps_takes_nothing_from_a_delivery_that_goes_on(self) -> None:
@@ -309,6 +310,19 @@ class Ends(Folder):
 
     def test_its_end_is_noted_beside_the_spool_before_that_is_asked_again(self) -> None:
         status, noted, _ = self.delivered("exit 0", "[ -e asked ] && cp deliver/7 noted && exit; touch asked; kill -KILL $$")
+        self.assertEqual((0, "exec rmail joe"), (status, json.loads(noted or "{}").get("came")))
+
+    def test_its_end_is_noted_beside_the_spool_if_no_process_can_be_begun(self) -> None:
+        real = os.fork
+
+        def fork() -> int:
+            if os.path.exists(f"{self.folder}/came") and not os.path.exists(f"{self.folder}/failed"):
+                self.put("failed")
+                raise BlockingIOError(errno.EAGAIN, os.strerror(errno.EAGAIN))
+            return real()
+
+        with mock.patch("os.fork", fork):
+            status, noted, _ = self.delivered("touch came", "cp deliver/7 noted")
         self.assertEqual((0, "exec rmail joe"), (status, json.loads(noted or "{}").get("came")))
 
     def test_units_stop_no_program_that_notes_an_end(self) -> None:

@@ -1,13 +1,21 @@
 """What the spool is asked, and what its answers mean; and the log."""
+import errno
 import os
+import signal
+import time
+from collections.abc import Callable
+from unittest import mock
 
+from uuspool_calls import deliver, refuse
 from uuspool_calls.errors import Failure, SpoolError
+from uuspool_calls.files import Lock
 from uuspool_calls.jobs import Job
 from uuspool_calls.journal import Journal
-from uuspool_calls.processes import Ended, Processes, Program
+from uuspool_calls.processes import Child, Ended, Processes, Program
+from uuspool_calls.site import Site
 from uuspool_calls.spool import Due, Queued, Refused, Spool
 
-from .standins import LINE, Folder
+from .standins import LINE, Folder, StandIn, parcel, site
 
 FAILED = Ended(3, b"", b"uuspool: spool: store\nuuspool: cause: no space left\n")
 
@@ -48,6 +56,15 @@ class Spools(Folder):
             with self.assertRaises(SpoolError) as raised:
                 self.spool(Ended(status, output, errors)).ask("send")
             self.assertEqual((said, True, 0), (str(raised.exception), raised.exception.is_final, self.answers.pauses))
+
+    def test_a_spool_for_which_no_process_can_be_begun_has_failed(self) -> None:
+        """A stop ends this process afterwards as before."""
+        processes = Processes()
+        spool = Spool(["/uuspool"], self.folder, {}, processes)
+        with mock.patch("os.fork", side_effect=BlockingIOError(errno.EAGAIN, "no room")), self.assertRaises(SpoolError) as raised:
+            spool.ask_once("done", "--", "duke")
+        self.assertEqual(("/uuspool cannot be run: no room", 75, False), (str(raised.exception), raised.exception.status, raised.exception.is_final))
+        self.assertFalse(signal.pthread_sigmask(signal.SIG_BLOCK, ()) & {signal.SIGHUP, signal.SIGINT, signal.SIGTERM})
 
     def test_a_fault_of_the_settings_or_of_the_clock_is_none_of_the_job(self) -> None:
         for said in "uuspool: settings: name bad", "uuspool: time: MomentRange":
@@ -110,6 +127,45 @@ class Spools(Folder):
         self.assertEqual(["--as=ann", "exec", "-gN", "--once=a!7!again", "--", "unc", "rmail", "-x"], self.answers.words[0])
 
 
+class Kills(Folder):
+    """A line of the program that waits for its turn while what began it is killed."""
+
+    def test_it_keeps_the_lock_under_which_it_was_begun(self) -> None:
+        def alone(here: Site) -> None:
+            with here.alone():
+                here.spool.kill(Job.read(LINE))
+
+        of_a_job = "deliver/7.lock"
+        own = parcel(LINE.replace("duke", "mysite"))
+        for path, work in (
+            ("moves/.lock", alone),
+            (of_a_job, lambda here: deliver.Deliverer(here).deliver(7)),
+            (of_a_job, lambda here: deliver.Deliverer(here).note_killed(7, 9)),
+            (of_a_job, lambda here: refuse._refuse(here, own, "why")),
+        ):  # fmt: skip
+            self.expect_kept(path, work)
+
+    def expect_kept(self, path: str, work: Callable[[Site], object]) -> None:
+        """Others get a lock only once the line has ended."""
+        for name in "begun", "may-end":
+            os.mkfifo(f"{self.folder}/{name}")
+        waits = self.put("waits", "#!/bin/sh\necho now >begun\nread _ <may-end\n", 0o755)
+        here = site(self.folder, StandIn())
+        here.spool = Spool([waits], self.folder, dict(os.environ), Processes())
+        child = Child(lambda: work(here) and 1 or 0)
+        with open(f"{self.folder}/begun", encoding="ascii") as begun:
+            begun.read()
+        child.kill()
+        self.assertEqual(128 + signal.SIGKILL, child.wait())
+        with Lock(f"{self.folder}/{path}") as lock:
+            self.assertFalse(lock.take(), path)
+            with open(f"{self.folder}/may-end", "w", encoding="ascii") as may_end:
+                may_end.write("now\n")
+            self.assertTrue(lock.wait(60, time.sleep), path)
+        for name in "begun", "may-end":
+            os.remove(f"{self.folder}/{name}")
+
+
 class Journals(Folder):
     def test_lines(self) -> None:
         said: list[str] = []
@@ -123,3 +179,17 @@ class Journals(Folder):
         os.mkfifo(f"{self.folder}/pipe")
         Journal(f"{self.folder}/pipe", "UTC0", said.append).note("duke", "ann", 7, "says", "hello")  # (Nobody reads it.)
         self.assertIn(f"{self.folder}/pipe cannot be written, and lacks: ", said[1])
+
+    def test_a_line_that_a_full_disk_tore(self) -> None:
+        """The next one is a line of its own. A line isn't there if only its beginning could be written."""
+        said: list[str] = []
+        log = Journal(self.put("log", "a\nb"), "UTC0", said.append)
+        self.assertEqual([True, True], [log.note("duke", "", "", "says", it, lasts=True) for it in ("one", "two")])
+        words = [line.split(" ")[5:] for line in self.bytes_of("log").decode().split("\n")]
+        self.assertEqual([[], [], ["says", "one"], ["says", "two"], []], words)
+        real = os.write
+        with mock.patch("os.write", lambda handle, text: real(handle, text[:30])):
+            self.assertFalse(log.note("duke", "", "", "says", "three"))
+        self.assertIn("log cannot be written, and lacks: ", said[0])
+        self.assertTrue(log.note("duke", "", "", "says", "four"))
+        self.assertRegex(self.bytes_of("log").decode(), r"\n.{30}\n.{19} duke - - says four\n\Z")

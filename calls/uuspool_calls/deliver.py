@@ -192,7 +192,7 @@ def _forget(folder: str, number: str) -> None:
     with files.Lock(f"{folder}/{number}{LOCK}") as lock:
         if lock.take() and lock.is_current():
             for end in "", _WORKS, LOCK:
-                files.remove(f"{folder}/{number}{end}")
+                files.forget(f"{folder}/{number}{end}")
 
 
 class Deliverer:
@@ -212,7 +212,7 @@ class Deliverer:
     def deliver(self, number: int) -> int:
         """Tries a job, unless it is gone, or another process delivers it. One that hangs delays no
         round."""
-        with self._site.lock(f"deliver/{number}{LOCK}") as lock:
+        with self._site.lock(f"deliver/{number}{LOCK}") as lock, self._site.spool.keeping(lock):
             if not (lock.take() and lock.is_current()):
                 return 0
             if not refusals.finish(self._site, number):
@@ -245,7 +245,7 @@ class Deliverer:
 
     def note_killed(self, number: int, signal: int) -> None:
         """A delivery that was killed, perhaps since memory ran out, has failed for now."""
-        with self._site.lock(f"deliver/{number}{LOCK}") as lock:
+        with self._site.lock(f"deliver/{number}{LOCK}") as lock, self._site.spool.keeping(lock):
             parcel = self._site.spool.show(number) if lock.take() and lock.is_current() else None
             if parcel:
                 self._fail(parcel, f"its delivery at {self._own} was killed by signal {signal}", clock.now())

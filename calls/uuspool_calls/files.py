@@ -54,22 +54,28 @@ def copy_all(source: int, target: int, place: int = 0) -> None:
 
 def replace(path: str, data: bytes | int, mode: int = 0o600) -> None:
     """Makes a file of these bytes, or of those of an open file, and replaces the one that was there. The
-    file is on the disk, whole, before this ends."""
-    folder, name = os.path.split(path)
-    new = f"{folder}/.{name}.new"
-    with closing(_opened_anew(new)) as handle:
-        os.fchmod(handle, mode)
-        if isinstance(data, bytes):
-            write_all(handle, data)
-        else:
-            copy_all(data, handle)
-        os.fsync(handle)
+    file is on the disk, whole, before this ends. If that can't be, as on a full disk, nothing is left of it."""
+    new = _new_of(path)
     try:
+        with closing(_opened_anew(new)) as handle:
+            os.fchmod(handle, mode)
+            if isinstance(data, bytes):
+                write_all(handle, data)
+            else:
+                copy_all(data, handle)
+            os.fsync(handle)
         os.replace(new, path)
     except OSError as error:
-        remove(new)
+        with contextlib.suppress(OSError):
+            os.remove(new)
         raise OSError(error.errno, error.strerror, path) from None
-    sync_folder(folder)
+    sync_folder(os.path.dirname(path))
+
+
+def _new_of(path: str) -> str:
+    """The path of what is to replace a file."""
+    folder, name = os.path.split(path)
+    return f"{folder}/.{name}.new"
 
 
 def _opened_anew(path: str) -> int:
@@ -143,6 +149,12 @@ def remove(path: str) -> None:
         os.remove(path)
 
 
+def forget(path: str) -> None:
+    """Removes a file that is replaced whole, and what a process that was killed left of a new one."""
+    remove(path)
+    remove(_new_of(path))
+
+
 def remove_folder(path: str) -> None:
     """Removes a folder of files, as far as possible."""
     with contextlib.suppress(OSError):
@@ -177,23 +189,24 @@ def names_in(folder: str) -> list[str]:
 
 
 class Lock:
-    """The lock of a file. A process that ends gives it back, and no program that it starts has it."""
+    """The lock of a file. A process that ends gives it back. No program that it starts has it, but lines of the spool
+    (`Spool.keeping`), which then give it back when they end."""
 
     def __init__(self, path: str) -> None:
         self.path = path
-        self._handle = os.open(path, os.O_RDWR | os.O_CREAT | os.O_APPEND | os.O_CLOEXEC, 0o600)
+        self.handle = os.open(path, os.O_RDWR | os.O_CREAT | os.O_APPEND | os.O_CLOEXEC, 0o600)
 
     def take(self) -> bool:
         """Takes the lock, unless another process has it."""
         try:
-            fcntl.flock(self._handle, fcntl.LOCK_EX | fcntl.LOCK_NB)
+            fcntl.flock(self.handle, fcntl.LOCK_EX | fcntl.LOCK_NB)
         except BlockingIOError:
             return False
         return True
 
     def give_back(self) -> None:
-        """Gives it back before this process ends, also for those that were forked from it."""
-        fcntl.flock(self._handle, fcntl.LOCK_UN)
+        """Gives it back before this process ends, also for all that have it from this one."""
+        fcntl.flock(self.handle, fcntl.LOCK_UN)
 
     def wait(self, seconds: float, pause: Callable[[float], None]) -> bool:
         """Waits for the lock."""
@@ -208,14 +221,14 @@ class Lock:
         """Whether the path still is this file. Whoever had the lock may have removed it, and then another
         process may have the lock of a new one."""
         with contextlib.suppress(FileNotFoundError):
-            return os.path.samestat(os.fstat(self._handle), os.stat(self.path))
+            return os.path.samestat(os.fstat(self.handle), os.stat(self.path))
         return False
 
     def __enter__(self) -> Self:
         return self
 
     def __exit__(self, *error: object) -> None:
-        os.close(self._handle)
+        os.close(self.handle)
 
 
 @contextlib.contextmanager

@@ -44,10 +44,12 @@ class Child:
     def __init__(self, work: Callable[[], int], shielded: bool = False) -> None:
         # (A stop of the child mustn't be taken for one of this process, whose answer to it the child has at first.)
         before = signal.pthread_sigmask(signal.SIG_BLOCK, _STOPS)
-        self.pid = os.fork()
-        if self.pid == 0:
-            _end_with(work, {*before, *_STOPS} if shielded else before)
-        signal.pthread_sigmask(signal.SIG_SETMASK, before)
+        try:
+            self.pid = os.fork()
+            if self.pid == 0:
+                _end_with(work, {*before, *_STOPS} if shielded else before)
+        finally:
+            signal.pthread_sigmask(signal.SIG_SETMASK, before)
 
     def wait(self) -> int:
         """Its status, once it has ended: 128 + N after signal N."""
@@ -137,14 +139,14 @@ def named(name: str) -> None:
         file.write(name)
 
 
-def execute(words: Sequence[str], folder: str, environment: Mapping[str, str], streams: Streams | None = None) -> int:
-    """This process becomes a program. Otherwise it says why not, and the answer is a status as a shell has it.
-    (subprocess and posix_spawn aren't used: the one takes long to load, and the other enters no folder.)"""
+def execute(words: Sequence[str], folder: str, environment: Mapping[str, str], streams: Streams | None = None, keeps: Collection[int] = ()) -> int:
+    """This process becomes a program, with these streams and files. Otherwise it says why not, and the answer is a status as a shell
+    has it. (subprocess and posix_spawn aren't used: the one takes long to load, and the other enters no folder.)"""
     try:
         for at, handle in enumerate(streams or ()):
             # (Those below 3 were open before this began, and the handles of a call are above.)
             os.dup2(handle, at)
-        os.closerange(3, _MOST_HANDLES)
+        _close_all_but(keeps)
         for number in _IGNORED:
             signal.signal(number, signal.SIG_DFL)
         if folder:
@@ -153,6 +155,16 @@ def execute(words: Sequence[str], folder: str, environment: Mapping[str, str], s
     except OSError as error:
         os.write(2, os.fsencode(f"{words[0]}: {error.strerror}\n"))
         return _NOT_EXECUTABLE if isinstance(error, PermissionError) else _NOT_FOUND
+
+
+def _close_all_but(kept: Collection[int]) -> None:
+    """Closes all files but the streams and these, which the program has, too."""
+    first = 3
+    for handle in sorted(kept):
+        os.closerange(first, handle)
+        os.set_inheritable(handle, True)
+        first = handle + 1
+    os.closerange(first, _MOST_HANDLES)
 
 
 class Program(NamedTuple):
@@ -169,6 +181,7 @@ class Program(NamedTuple):
     first: Callable[[], None] | None = None  # what the new process does before it becomes the program
     leaves_none: bool = False  # unless it ends well, all that it began ends with it, also in sessions of its own
     leaves_terminal: bool = False  # it has a session of its own, and so no terminal, as each program with a limit
+    keeps: Collection[int] = ()  # open files that it has besides its streams, such as that of a lock
 
     def line(self) -> list[str]:
         """The words that are executed. `timeout` ends the program even if this process was killed."""
@@ -186,7 +199,7 @@ class Program(NamedTuple):
             os.setsid()
         if self.first:
             self.first()
-        return execute(self.line(), self.folder, self.environment, streams)
+        return execute(self.line(), self.folder, self.environment, streams, self.keeps)
 
 
 class _Pipe:

@@ -39,7 +39,7 @@ def _refuse(site: Site, parcel: Parcel, why: str) -> bool:
         with site.alone():
             moves.finish_all(site)
             return Refuser(site).refuse(_parcel(site, number), why)
-    with site.lock(f"deliver/{number}{LOCK}") as lock:
+    with site.lock(f"deliver/{number}{LOCK}") as lock, site.spool.keeping(lock):
         if not lock.take():
             raise Failure(LATER, f"job {number} is being delivered: repeat this if it still waits then")
         deliverer, parcel = Deliverer(site), _parcel(site, number)

@@ -47,7 +47,8 @@ class Site:
                 raise Failure(LATER, f"jobs of {self.own} are being moved or refused by another process")
             self._is_alone = True
             try:
-                yield
+                with self.spool.keeping(lock):
+                    yield
             finally:
                 self._is_alone = False
 

@@ -1,7 +1,9 @@
 """What is asked of the spool: lines of the command `uuspool`, and their answers."""
+import contextlib
 from collections.abc import Iterator, Mapping, Sequence
 
 from .errors import LATER, Failure, SpoolError
+from .files import Lock
 from .jobs import Job, Parcel
 from .processes import Ended, Processes, Program
 from .texts import one_line, plain
@@ -89,10 +91,24 @@ class Spool:
 
     def __init__(self, command: Sequence[str], folder: str, environment: Mapping[str, str], processes: Processes) -> None:
         self._command, self._folder, self._environment, self._processes = command, folder, environment, processes
+        self._keeps: tuple[int, ...] = ()
+
+    @contextlib.contextmanager
+    def keeping(self, lock: Lock) -> Iterator[None]:
+        """Meanwhile each line has this lock, too. A line that waits for its turn goes on if this process is killed, and nobody else gets
+        the lock before it has ended."""
+        before, self._keeps = self._keeps, (*self._keeps, lock.handle)
+        try:
+            yield
+        finally:
+            self._keeps = before
 
     def run(self, words: Sequence[str], given: bytes | int = b"") -> Ended:
-        """Does a line."""
-        return self._processes.run(Program([*self._command, *words], self._folder, self._environment), given)
+        """Does a line. If no process can be begun now, the spool has failed."""
+        try:
+            return self._processes.run(Program([*self._command, *words], self._folder, self._environment, keeps=self._keeps), given)
+        except OSError as error:
+            return Ended(LATER, b"", f"{self._command[0]} cannot be run: {error.strerror}\n".encode())
 
     def ask_once(self, *words: str, given: bytes | int = b"") -> bytes:
         """The answer to a line."""

@@ -26,16 +26,16 @@ class Turn(files.Lock):
     def __init__(self, spool: str, seconds: int, owner: str = "") -> None:
         self.path, self.seconds, self._owner = f"{spool}-lock", seconds, owner
         with acting_as(owner):
-            self._handle = os.open(self.path, _OPEN | os.O_CREAT, 0o600)
+            self.handle = os.open(self.path, _OPEN | os.O_CREAT, 0o600)
         self._ends = time.monotonic() + seconds
 
     def wait_for_it(self, pause: Callable[[float], None]) -> None:
         """Waits for the turn."""
         if not self._tries(self.take, pause):
             # (By the path the owner may have put a link there meanwhile.)
-            holder = os.pread(self._handle, _MOST_DIGITS, 0).decode(errors="replace").strip()
+            holder = os.pread(self.handle, _MOST_DIGITS, 0).decode(errors="replace").strip()
             raise Failure(LATER, f"no turn within {self.seconds} seconds: process {holder or '-'} has {self.path}")
-        os.pwrite(self._handle, b"%10d\n" % os.getpid(), 0)
+        os.pwrite(self.handle, b"%10d\n" % os.getpid(), 0)
 
     @contextlib.contextmanager
     def database(self, path: str, pause: Callable[[float], None]) -> Iterator[int]:
