@@ -358,7 +358,7 @@ class Envelopes(Folder):
         return Delivered("exec", ("rmail", "joe"), content, "duke", user, "mysite!7!2026-11-08.09:30:00")
 
     def test_the_line_says_from_which_neighbour(self) -> None:
-        for line in b"From ann Sat Nov 28 12:00:00 2026 remote from duke\n\nhello", b"From ann remote from duke\n", b"From a!b+c=d remote from duke\nx":
+        for line in b"From ann Sat Nov 28 12:00:00 2026 remote from duke\n\nhello", b"From a!b+c=d  28 Nov 26 1:00 x remote from duke\nx":
             self.assertEqual(line, self.signed(line))
         for text, rest in (
             (b"From president x remote from unc\nhello", b"hello"), (b"From president remote from unc remote from duke\nhello", b"hello"),
@@ -369,6 +369,14 @@ class Envelopes(Folder):
             self.assertRegex(first, rb"^From ann [A-Z][a-z]{2} [A-Z][a-z]{2} [ \d]\d \d\d:\d\d:\d\d \d{4} remote from duke$")
             self.assertEqual(rest, after)
         self.assertEqual(b"From a!b Sun Nov  8 09:30:00 2026 remote from duke\n", self.signed(b"", "duke!a!b"))
+
+    def test_the_line_has_a_date(self) -> None:
+        """Exim believes no line without one, and takes the mail for that of this site's own `uucp`."""
+        for after in b" remote from duke", b" x remote from duke", b" 28 Nov 2026 remote from duke", b" 2026-11-28 12:00:00 remote from duke", b"  Sat, 28 Nov 2026 12:00:00 remote from duke":
+            self.assertEqual(b"From joe Sun Nov  8 09:30:00 2026 remote from duke\nhello", self.signed(b"From joe" + after + b"\nhello"), after)
+        for date in b"Sat Nov 28 12:00:00 2026", b"Nov 28 12:00", b"28 Nov 26 1:00", b"Sat 8 Nov 2026 12:00:00 +0100":
+            line = b"From joe " + date + b" remote from duke\nhello"
+            self.assertEqual(line, self.signed(line))
 
     def test_a_local_mailer_gets_one_line_with_the_whole_path(self) -> None:
         """Exim takes one line `From`. What follows is a header, or else the headers become text."""
@@ -391,10 +399,11 @@ class Envelopes(Folder):
             (line + b">From boss x\nFrom\tjoe x\n>From\vjoe x\nhello\n>From y\n", b"hello\n>From y\n"), (b">From boss x\n\nFrom z\n", b"\nFrom z\n"),
         ):  # fmt: skip
             self.assertEqual(line + rest, self.signed(text, "ann", sender=""))
-        self.assertEqual(b"From b.example!joe x remote from mysite\nx", self.signed(b"From joe@b.example x remote from mysite\n>From joe@b.example x\nx", "joe@b.example", sender=""))
+        self.assertEqual(line.replace(b"ann", b"b.example!joe") + b"x", self.signed(b"From joe@b.example x remote from mysite\n>From joe@b.example x\nx", "joe@b.example", sender=""))
 
     def test_no_blank_makes_an_older_line_another_one(self) -> None:
-        self.assertEqual(b"From ann x remote from duke\n", self.signed(b"From ann x remote from duke\nFrom\tboss x\n"))
+        line = b"From ann Sat Nov 28 12:00:00 2026 remote from duke\n"
+        self.assertEqual(line, self.signed(line + b"From\tboss x\n"))
 
     def test_users_are_paths_of_plain_words(self) -> None:
         for user, path in (
@@ -405,15 +414,15 @@ class Envelopes(Folder):
             self.assertEqual(path, envelope.plain_user(user), user)
 
     def test_no_line_of_the_envelope_has_another_address(self) -> None:
-        head = b"From ann x remote from duke\n"
+        head = b"From ann Nov 28 1:00 x remote from duke\n"
         self.assertTrue(self.signed(b"hello", "duke!x<ann@mysite>").startswith(b"From mysite_!x_ann Sun Nov  8 "))
         self.assertTrue(self.signed(b"hello", "duke!@").startswith(b"From uucp Sun Nov  8 "))
         for text, given in (
-            (b"From x<ann@mysite> a remote from duke\nhello", b"From mysite_!x_ann a remote from duke\nhello"),
-            (b"From joe@b.example a remote from duke\nhello", b"From b.example!joe a remote from duke\nhello"),
-            (b"From a~\xa0\xff x\0\x1b remote from duke\n", b"From a~__ x__ remote from duke\n"),
-            (head + b">From x<ann@mysite> y\n>From z remote from a<ann@mysite>\n\n<a@b>\n>From x<y>\n", b"From a_ann_mysite_!z x remote from duke\n\n<a@b>\n>From x<y>\n"),
-            (head + b">From x<ann@mysite> y remote from b\n>From z remote from a<ann@mysite>\n", b"From b!a_ann_mysite_!z x remote from duke\n"),
+            (b"From x<ann@mysite> Nov 28 1:00 a remote from duke\nhello", b"From mysite_!x_ann Nov 28 1:00 a remote from duke\nhello"),
+            (b"From joe@b.example Nov 28 1:00 remote from duke\nhello", b"From b.example!joe Nov 28 1:00 remote from duke\nhello"),
+            (b"From a~\xa0\xff Nov 28 1:00 x\0\x1b remote from duke\n", b"From a~__ Nov 28 1:00 x__ remote from duke\n"),
+            (head + b">From x<ann@mysite> y\n>From z remote from a<ann@mysite>\n\n<a@b>\n>From x<y>\n", b"From a_ann_mysite_!z Nov 28 1:00 x remote from duke\n\n<a@b>\n>From x<y>\n"),
+            (head + b">From x<ann@mysite> y remote from b\n>From z remote from a<ann@mysite>\n", b"From b!a_ann_mysite_!z Nov 28 1:00 x remote from duke\n"),
         ):  # fmt: skip
             self.assertEqual(given, self.signed(text))
 

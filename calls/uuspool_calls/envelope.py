@@ -2,7 +2,7 @@
 whatever the neighbour wrote. The local mailer gets this line alone, because Exim takes the next one for the end of the
 headers. Its user is the whole path that older lines say. Mail that goes on to another system keeps older lines as `>From`,
 as RFC 976 has it. The users in these lines are paths of plain words, in which no mailer finds another address. Mail of a
-user of this site has one such line, of that user."""
+user of this site has one such line, of that user. Each line that is the first has a date, without which Exim knows no line."""
 import contextlib
 import itertools
 import os
@@ -20,6 +20,7 @@ _NOBODY = "uucp"  # the user of mail that a machine handed on
 _BEGINS = tuple(quote + b"From" + blank for quote in (b"", b">") for blank in (b" ", b"\t", b"\v", b"\f", b"\r"))  # (what Exim takes for a blank)
 _OF_WORDS = frozenset("ABCDEFGHIJKLMNOPQRSTUVWXYZabcdefghijklmnopqrstuvwxyz0123456789._+=&'~#^-")
 _OF_LINES = _OF_WORDS | frozenset(" !:")
+_DATE = r" *(?:[A-Za-z]{3} +)?(?:[A-Za-z]{3} +[0-9]?[0-9]|[0-9]?[0-9] +[A-Za-z]{3} +[0-9]{2}(?:[0-9]{2})?) +[0-9]?[0-9]:[0-9]"  # as Exim takes one
 
 
 def plain_user(user: str) -> str:
@@ -46,10 +47,10 @@ def signed(job: Delivered, own: str, folder: str) -> Iterator[int]:
         lines = [it for it in lines[:1] if it.startswith(f"From {user} ") and _is_signed(it, own)]
     if lines and _is_signed(lines[0], site):
         user, rest = _parted(lines[0])
-        line = f"From {_path(user, lines[1:])} {rest}"
+        line = _dated(f"From {_path(user, lines[1:])} {rest}", job.moment)
     else:
         # (Another UUCP may give the mail of all to `uucp`. Otherwise the job's user is better known than older lines.)
-        line = _line(job, _path(user, lines) if user == _NOBODY else user, site)
+        line = _line(job.moment, _path(user, lines) if user == _NOBODY else user, site)
     if _text([line]) == os.pread(job.content, length, 0):
         yield job.content
         return
@@ -61,7 +62,7 @@ def handed_on(job: Delivered, own: str, folder: str) -> contextlib.AbstractConte
     """The same for mail that goes on to the next site, to which it comes from this one. (The program writes such a line before
     what it hands on itself.)"""
     lines, length = _lines_of(job.content)
-    return _rewritten([_line(job, plain_user(job.user), own), *lines], length, job, folder)
+    return _rewritten([_line(job.moment, plain_user(job.user), own), *lines], length, job, folder)
 
 
 @contextlib.contextmanager
@@ -125,6 +126,14 @@ def _is_signed(line: str, neighbour: str) -> bool:
     return user != "" and line.count("remote from ") == 1 and (blank + rest).endswith(f" remote from {neighbour}")
 
 
-def _line(job: Delivered, user: str, site: str) -> str:
-    date = time.strftime("%a %b %e %H:%M:%S %Y", time.gmtime(clock.seconds("UTC0", job.moment)))
-    return f"From {user} {date} remote from {site}"
+def _dated(line: str, moment: str) -> str:
+    """A line with a date, which is this moment if it has none. Exim would take a line without one for text, and the mail for that of its caller."""
+    import re  # (loaded late, since only mail needs it)
+
+    user, rest = _parted(line)
+    return line if re.match(_DATE, rest) else _line(moment, user, _system_of(line))
+
+
+def _line(moment: str, user: str, site: str) -> str:
+    date = time.strftime("%a %b %e %H:%M:%S %Y", time.gmtime(clock.seconds("UTC0", moment)))
+    return f"From {user} {date}" + (f" remote from {site}" if site else "")
