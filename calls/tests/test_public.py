@@ -11,7 +11,7 @@ from uuspool_calls.files import memory_file
 from uuspool_calls.jobs import Delivered
 from uuspool_calls.processes import Child
 
-from .standins import Folder
+from .standins import Folder, parcel
 
 
 class Public(Folder):
@@ -438,6 +438,32 @@ class Envelopes(Folder):
         older = b">From a x remote from duke\n>From b x remote from unc\n\n"
         with memory_file(older[1:]) as content, envelope.handed_on(self.mail(content, "duke!x<b@c>"), "mysite", self.folder) as given:
             self.assertEqual(b"From duke!c_!x_b Sun Nov  8 09:30:00 2026 remote from mysite\n" + older, os.pread(given, 1000, 0))
+
+    def plain(self, data: bytes, user: str) -> bytes:
+        with memory_file(data) as content:
+            envelope.make_plain(content, parcel(f"7 unc {user} N 2026-11-08 09:30:00 0 exec rmail joe", b"").job, "mysite", self.folder)
+            return os.pread(content, 2000, 0)
+
+    def test_mail_of_a_neighbour_that_went_on_without_a_delivery(self) -> None:
+        ours, date = b"From duke!mysite_!x_ann Sun Nov  8 09:30:00 2026 remote from mysite\n", b" Nov 28 1:00 remote from mysite\n"
+        for written, plain in (
+            (ours, ours), (b"From duke!x<ann@mysite>" + date, b"From duke!mysite_!x_ann" + date), (b"From duke!x<ann@mysite> remote from mysite\n", ours),
+            (ours + b">From x<ann@mysite> y<z>\nFrom\tz\n", ours + b">From mysite_!x_ann y_z_\n>From z \n"), (b"From president" + date, ours + b">From president" + date),
+            (b"From ann@mysite x\n", ours + b">From mysite!ann x\n"), (b">From duke!x<ann@mysite>" + date, ours + b">From duke!mysite_!x_ann" + date), (b"", ours),
+        ):  # fmt: skip
+            self.assertEqual(plain + b"\nhello\n", self.plain(written + b"\nhello\n", "duke!x<ann@mysite>"), written)
+
+    def test_mail_of_a_mailer_here_keeps_plain_addresses(self) -> None:
+        """(A stranger may have sent it by SMTP.)"""
+        date = b" Nov 28 1:00"
+        for user in b"ann", b"ann@mysite.example", b"SRS0=x/y=z@b.example", b"a%b@c", b"unc!joe@b.example", b"":
+            mail = b"From " + user + date + b"\n>From " + user + b" x\n\nhello\n"
+            self.assertEqual(mail, self.plain(mail, "uucp"))
+        for user, plain in (b"x<ann@mysite>", b"mysite_!x_ann"), (b"a@b@c", b"c!a_b"), (b"-oX@b", b"b!oX"), (b"unc!-oX", b"unc!oX"), (b"/etc/x", b"_etc_x"), (b"j\xf6e@b", b"b!j_e"):
+            self.assertEqual(b"From " + plain + date + b"\n>From " + plain + b" \n\nhello\n", self.plain(b"From " + user + date + b"\n>From " + user + b"\n\nhello\n", "uucp"))
+        line = b"From uucp Sun Nov  8 09:30:00 2026 remote from mysite\n"
+        for written, plain in (b"hello\n", b"hello\n"), (b"", b""), (b">From x\n", line + b">From x \n"), (b"From uucp x remote from mysite\nx", line + b"x"):
+            self.assertEqual(plain, self.plain(written, "uucp"))
 
     def test_large_mail_has_no_name(self) -> None:
         with memory_file(bytes(1_048_577)) as content, envelope.signed(self.mail(content), "mysite", self.folder) as given:
