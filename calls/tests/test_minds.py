@@ -66,9 +66,9 @@ class Whole:
     def __init__(self, name: str, pieces: int) -> None:
         self.name, self.pieces = name, pieces
         self.was_removed = False  # by its user, perhaps a part of it
-        self.had_left = False  # some of it was at a neighbour when something was done with the rest
+        self.unknown: set[int] = set()  # jobs of it that came, of which nobody here knows that
+        self.had_left = False  # some of them were, when something was done with the rest
         self.came: dict[str, set[int]] = {it: set() for it in _NEIGHBOURS}
-        self.twice = 0
 
 
 class Minds(Folder):
@@ -108,7 +108,10 @@ class Minds(Folder):
 
     def chosen(self) -> Job | None:
         jobs = [it.job for it in self.spool.parcels.values()]
-        return self.chance.choice(jobs) if jobs else None
+        job = self.chance.choice(jobs) if jobs else None
+        if job and self.its(job).unknown:
+            self.its(job).had_left = True
+        return job
 
     def move(self) -> None:
         if job := self.chosen():
@@ -143,19 +146,18 @@ class Minds(Folder):
             for job in jobs:
                 self.bring(name, job)
             if breaks and self.chance.random() < 0.3:
-                for job in jobs:
-                    self.its(job).had_left = True  # (nobody here knows that it came)
                 return
             with self.site.alone():
                 finish_begun(self.site, name)
                 for job in jobs:
                     self.spool.kill(job)
+                    self.its(job).unknown.discard(job.number)
 
     def bring(self, name: str, job: Job) -> None:
         whole, piece = self.its(job), Piece.of(job)
         at = piece.at // 4 if piece else 0
-        whole.twice += at in whole.came[name]
         whole.came[name].add(at)
+        whole.unknown.add(job.number)
 
     def finish(self) -> None:
         with self.perhaps_killed():

@@ -11,7 +11,7 @@ from uuspool_calls.files import memory_file
 from uuspool_calls.jobs import Delivered
 from uuspool_calls.processes import Child
 
-from .standins import Folder
+from .standins import Folder, parcel
 
 
 class Public(Folder):
@@ -358,7 +358,7 @@ class Envelopes(Folder):
         return Delivered("exec", ("rmail", "joe"), content, "duke", user, "mysite!7!2026-11-08.09:30:00")
 
     def test_the_line_says_from_which_neighbour(self) -> None:
-        for line in b"From ann Sat Nov 28 12:00:00 2026 remote from duke\n\nhello", b"From ann remote from duke\n", b"From a!b+c=d remote from duke\nx":
+        for line in b"From ann Sat Nov 28 12:00:00 2026 remote from duke\n\nhello", b"From a!b+c=d  28 Nov 26 1:00 x remote from duke\nx":
             self.assertEqual(line, self.signed(line))
         for text, rest in (
             (b"From president x remote from unc\nhello", b"hello"), (b"From president remote from unc remote from duke\nhello", b"hello"),
@@ -369,6 +369,14 @@ class Envelopes(Folder):
             self.assertRegex(first, rb"^From ann [A-Z][a-z]{2} [A-Z][a-z]{2} [ \d]\d \d\d:\d\d:\d\d \d{4} remote from duke$")
             self.assertEqual(rest, after)
         self.assertEqual(b"From a!b Sun Nov  8 09:30:00 2026 remote from duke\n", self.signed(b"", "duke!a!b"))
+
+    def test_the_line_has_a_date(self) -> None:
+        """Exim believes no line without one, and takes the mail for that of this site's own `uucp`."""
+        for after in b" remote from duke", b" x remote from duke", b" 28 Nov 2026 remote from duke", b" 2026-11-28 12:00:00 remote from duke", b"  Sat, 28 Nov 2026 12:00:00 remote from duke":
+            self.assertEqual(b"From joe Sun Nov  8 09:30:00 2026 remote from duke\nhello", self.signed(b"From joe" + after + b"\nhello"), after)
+        for date in b"Sat Nov 28 12:00:00 2026", b"Nov 28 12:00", b"28 Nov 26 1:00", b"Sat 8 Nov 2026 12:00:00 +0100":
+            line = b"From joe " + date + b" remote from duke\nhello"
+            self.assertEqual(line, self.signed(line))
 
     def test_a_local_mailer_gets_one_line_with_the_whole_path(self) -> None:
         """Exim takes one line `From`. What follows is a header, or else the headers become text."""
@@ -391,10 +399,11 @@ class Envelopes(Folder):
             (line + b">From boss x\nFrom\tjoe x\n>From\vjoe x\nhello\n>From y\n", b"hello\n>From y\n"), (b">From boss x\n\nFrom z\n", b"\nFrom z\n"),
         ):  # fmt: skip
             self.assertEqual(line + rest, self.signed(text, "ann", sender=""))
-        self.assertEqual(b"From b.example!joe x remote from mysite\nx", self.signed(b"From joe@b.example x remote from mysite\n>From joe@b.example x\nx", "joe@b.example", sender=""))
+        self.assertEqual(line.replace(b"ann", b"b.example!joe") + b"x", self.signed(b"From joe@b.example x remote from mysite\n>From joe@b.example x\nx", "joe@b.example", sender=""))
 
     def test_no_blank_makes_an_older_line_another_one(self) -> None:
-        self.assertEqual(b"From ann x remote from duke\n", self.signed(b"From ann x remote from duke\nFrom\tboss x\n"))
+        line = b"From ann Sat Nov 28 12:00:00 2026 remote from duke\n"
+        self.assertEqual(line, self.signed(line + b"From\tboss x\n"))
 
     def test_users_are_paths_of_plain_words(self) -> None:
         for user, path in (
@@ -405,15 +414,15 @@ class Envelopes(Folder):
             self.assertEqual(path, envelope.plain_user(user), user)
 
     def test_no_line_of_the_envelope_has_another_address(self) -> None:
-        head = b"From ann x remote from duke\n"
+        head = b"From ann Nov 28 1:00 x remote from duke\n"
         self.assertTrue(self.signed(b"hello", "duke!x<ann@mysite>").startswith(b"From mysite_!x_ann Sun Nov  8 "))
         self.assertTrue(self.signed(b"hello", "duke!@").startswith(b"From uucp Sun Nov  8 "))
         for text, given in (
-            (b"From x<ann@mysite> a remote from duke\nhello", b"From mysite_!x_ann a remote from duke\nhello"),
-            (b"From joe@b.example a remote from duke\nhello", b"From b.example!joe a remote from duke\nhello"),
-            (b"From a~\xa0\xff x\0\x1b remote from duke\n", b"From a~__ x__ remote from duke\n"),
-            (head + b">From x<ann@mysite> y\n>From z remote from a<ann@mysite>\n\n<a@b>\n>From x<y>\n", b"From a_ann_mysite_!z x remote from duke\n\n<a@b>\n>From x<y>\n"),
-            (head + b">From x<ann@mysite> y remote from b\n>From z remote from a<ann@mysite>\n", b"From b!a_ann_mysite_!z x remote from duke\n"),
+            (b"From x<ann@mysite> Nov 28 1:00 a remote from duke\nhello", b"From mysite_!x_ann Nov 28 1:00 a remote from duke\nhello"),
+            (b"From joe@b.example Nov 28 1:00 remote from duke\nhello", b"From b.example!joe Nov 28 1:00 remote from duke\nhello"),
+            (b"From a~\xa0\xff Nov 28 1:00 x\0\x1b remote from duke\n", b"From a~__ Nov 28 1:00 x__ remote from duke\n"),
+            (head + b">From x<ann@mysite> y\n>From z remote from a<ann@mysite>\n\n<a@b>\n>From x<y>\n", b"From a_ann_mysite_!z Nov 28 1:00 x remote from duke\n\n<a@b>\n>From x<y>\n"),
+            (head + b">From x<ann@mysite> y remote from b\n>From z remote from a<ann@mysite>\n", b"From b!a_ann_mysite_!z Nov 28 1:00 x remote from duke\n"),
         ):  # fmt: skip
             self.assertEqual(given, self.signed(text))
 
@@ -429,6 +438,32 @@ class Envelopes(Folder):
         older = b">From a x remote from duke\n>From b x remote from unc\n\n"
         with memory_file(older[1:]) as content, envelope.handed_on(self.mail(content, "duke!x<b@c>"), "mysite", self.folder) as given:
             self.assertEqual(b"From duke!c_!x_b Sun Nov  8 09:30:00 2026 remote from mysite\n" + older, os.pread(given, 1000, 0))
+
+    def plain(self, data: bytes, user: str) -> bytes:
+        with memory_file(data) as content:
+            envelope.make_plain(content, parcel(f"7 unc {user} N 2026-11-08 09:30:00 0 exec rmail joe", b"").job, "mysite", self.folder)
+            return os.pread(content, 2000, 0)
+
+    def test_mail_of_a_neighbour_that_went_on_without_a_delivery(self) -> None:
+        ours, date = b"From duke!mysite_!x_ann Sun Nov  8 09:30:00 2026 remote from mysite\n", b" Nov 28 1:00 remote from mysite\n"
+        for written, plain in (
+            (ours, ours), (b"From duke!x<ann@mysite>" + date, b"From duke!mysite_!x_ann" + date), (b"From duke!x<ann@mysite> remote from mysite\n", ours),
+            (ours + b">From x<ann@mysite> y<z>\nFrom\tz\n", ours + b">From mysite_!x_ann y_z_\n>From z \n"), (b"From president" + date, ours + b">From president" + date),
+            (b"From ann@mysite x\n", ours + b">From mysite!ann x\n"), (b">From duke!x<ann@mysite>" + date, ours + b">From duke!mysite_!x_ann" + date), (b"", ours),
+        ):  # fmt: skip
+            self.assertEqual(plain + b"\nhello\n", self.plain(written + b"\nhello\n", "duke!x<ann@mysite>"), written)
+
+    def test_mail_of_a_mailer_here_keeps_plain_addresses(self) -> None:
+        """(A stranger may have sent it by SMTP.)"""
+        date = b" Nov 28 1:00"
+        for user in b"ann", b"ann@mysite.example", b"SRS0=x/y=z@b.example", b"a%b@c", b"unc!joe@b.example", b"":
+            mail = b"From " + user + date + b"\n>From " + user + b" x\n\nhello\n"
+            self.assertEqual(mail, self.plain(mail, "uucp"))
+        for user, plain in (b"x<ann@mysite>", b"mysite_!x_ann"), (b"a@b@c", b"c!a_b"), (b"-oX@b", b"b!oX"), (b"unc!-oX", b"unc!oX"), (b"/etc/x", b"_etc_x"), (b"j\xf6e@b", b"b!j_e"):
+            self.assertEqual(b"From " + plain + date + b"\n>From " + plain + b" \n\nhello\n", self.plain(b"From " + user + date + b"\n>From " + user + b"\n\nhello\n", "uucp"))
+        line = b"From uucp Sun Nov  8 09:30:00 2026 remote from mysite\n"
+        for written, plain in (b"hello\n", b"hello\n"), (b"", b""), (b">From x\n", line + b">From x \n"), (b"From uucp x remote from mysite\nx", line + b"x"):
+            self.assertEqual(plain, self.plain(written, "uucp"))
 
     def test_large_mail_has_no_name(self) -> None:
         with memory_file(bytes(1_048_577)) as content, envelope.signed(self.mail(content), "mysite", self.folder) as given:

@@ -2,17 +2,17 @@
 whatever the neighbour wrote. The local mailer gets this line alone, because Exim takes the next one for the end of the
 headers. Its user is the whole path that older lines say. Mail that goes on to another system keeps older lines as `>From`,
 as RFC 976 has it. The users in these lines are paths of plain words, in which no mailer finds another address. Mail of a
-user of this site has one such line, of that user."""
+user of this site has one such line, of that user. Each line that is the first has a date, without which Exim knows no line."""
 import contextlib
 import itertools
 import os
 import time
-from collections.abc import Iterator, Sequence
+from collections.abc import Callable, Iterator, Sequence
 
 from . import clock, files
 from .bundle import MOST_OF_A_JOB
 from .errors import Refusal
-from .jobs import Delivered
+from .jobs import Delivered, Job
 from .texts import is_name
 
 _MOST = 1 << 16  # bytes of these lines
@@ -20,6 +20,8 @@ _NOBODY = "uucp"  # the user of mail that a machine handed on
 _BEGINS = tuple(quote + b"From" + blank for quote in (b"", b">") for blank in (b" ", b"\t", b"\v", b"\f", b"\r"))  # (what Exim takes for a blank)
 _OF_WORDS = frozenset("ABCDEFGHIJKLMNOPQRSTUVWXYZabcdefghijklmnopqrstuvwxyz0123456789._+=&'~#^-")
 _OF_LINES = _OF_WORDS | frozenset(" !:")
+_OF_ADDRESSES = _OF_WORDS | frozenset("!@%/")
+_DATE = r" *(?:[A-Za-z]{3} +)?(?:[A-Za-z]{3} +[0-9]?[0-9]|[0-9]?[0-9] +[A-Za-z]{3} +[0-9]{2}(?:[0-9]{2})?) +[0-9]?[0-9]:[0-9]"  # as Exim takes one
 
 
 def plain_user(user: str) -> str:
@@ -29,6 +31,13 @@ def plain_user(user: str) -> str:
     local, _, domain = last.rpartition("@")
     words = (it.lstrip("-") for it in (*path.split("!"), domain, local))
     return "!".join(_plain(it, _OF_WORDS) for it in words if it)
+
+
+def _plain_address(user: str) -> str:
+    """A user as a mailer of this site wrote it, if no mailer finds another address in that, and else as such a path."""
+    words = user.replace("@", "!").split("!")
+    is_plain = _OF_ADDRESSES.issuperset(user) and user.count("@") <= 1 and not any(it.startswith(("-", "/")) for it in words)
+    return user if is_plain else plain_user(user)
 
 
 def _plain(text: str, kept: frozenset[str]) -> str:
@@ -46,14 +55,14 @@ def signed(job: Delivered, own: str, folder: str) -> Iterator[int]:
         lines = [it for it in lines[:1] if it.startswith(f"From {user} ") and _is_signed(it, own)]
     if lines and _is_signed(lines[0], site):
         user, rest = _parted(lines[0])
-        line = f"From {_path(user, lines[1:])} {rest}"
+        line = _dated(f"From {_path(user, lines[1:])} {rest}", job.moment)
     else:
         # (Another UUCP may give the mail of all to `uucp`. Otherwise the job's user is better known than older lines.)
-        line = _line(job, _path(user, lines) if user == _NOBODY else user, site)
+        line = _line(job.moment, _path(user, lines) if user == _NOBODY else user, site)
     if _text([line]) == os.pread(job.content, length, 0):
         yield job.content
         return
-    with _rewritten([line], length, job, folder) as whole:
+    with _rewritten([line], length, job.content, folder) as whole:
         yield whole
 
 
@@ -61,34 +70,51 @@ def handed_on(job: Delivered, own: str, folder: str) -> contextlib.AbstractConte
     """The same for mail that goes on to the next site, to which it comes from this one. (The program writes such a line before
     what it hands on itself.)"""
     lines, length = _lines_of(job.content)
-    return _rewritten([_line(job, plain_user(job.user), own), *lines], length, job, folder)
+    return _rewritten([_line(job.moment, plain_user(job.user), own), *lines], length, job.content, folder)
+
+
+def make_plain(content: int, job: Job, own: str, folder: str) -> None:
+    """Makes the lines plain in the open file of mail that goes to a system which believes them as they are. A neighbour's mail may have been
+    handed on or moved without a delivery here, so it begins with a line of its user. A mailer's own lines keep plain addresses."""
+    lines, length = _lines_of(content, plain_user if job.sender else _plain_address)
+    user, moment = plain_user(job.user) or _NOBODY, f"{job.day} {job.hour}"
+    is_envelope = bool(lines) and os.pread(content, 1, 0) != b">"
+    if is_envelope and (not job.sender or _parted(lines[0])[0] == user):
+        lines[0] = _dated(lines[0], moment)
+    elif job.sender or lines:
+        lines.insert(0, _line(moment, user, own))
+    if _text(lines) != os.pread(content, length, 0):
+        with _rewritten(lines, length, content, folder) as whole:
+            os.ftruncate(content, 0)
+            os.lseek(content, 0, os.SEEK_SET)
+            files.copy_all(whole, content)
 
 
 @contextlib.contextmanager
-def _rewritten(lines: Sequence[str], length: int, job: Delivered, folder: str) -> Iterator[int]:
+def _rewritten(lines: Sequence[str], length: int, content: int, folder: str) -> Iterator[int]:
     """The open file of these lines, and then the mail behind its own ones."""
-    is_large = os.fstat(job.content).st_size > MOST_OF_A_JOB
+    is_large = os.fstat(content).st_size > MOST_OF_A_JOB
     with files.nameless_file(folder) if is_large else files.memory_file(b"") as whole:
         files.write_all(whole, _text(lines))
-        files.copy_all(job.content, whole, length)
+        files.copy_all(content, whole, length)
         os.lseek(whole, 0, os.SEEK_SET)
         yield whole
 
 
-def _lines_of(content: int) -> tuple[list[str], int]:
-    """The lines with which mail begins, as this site writes them, and how many bytes they have. (sendmail's rmail takes the
+def _lines_of(content: int, plain: Callable[[str], str] = plain_user) -> tuple[list[str], int]:
+    """The lines with which mail begins, with users that this makes plain, and how many bytes they have. (sendmail's rmail takes the
     user of the last one, so all count.)"""
     head = os.pread(content, _MOST, 0)
     lines = list(itertools.takewhile(lambda it: it.startswith(_BEGINS), head.split(b"\n")))
     length = min(sum(len(it) + 1 for it in lines), len(head))
     if len(head) == _MOST and length > _MOST - len(_BEGINS[-1]):
         raise Refusal(f"the lines `From ..` before the message have more than {_MOST >> 10} KiB")
-    return [_plain_line(it.decode(errors="replace")) for it in lines], length
+    return [_plain_line(it.decode(errors="replace"), plain) for it in lines], length
 
 
-def _plain_line(line: str) -> str:
+def _plain_line(line: str, plain: Callable[[str], str]) -> str:
     user, _, rest = line.removeprefix(">")[len("From ") :].partition(" ")
-    return f"From {plain_user(user)} {_plain(rest, _OF_LINES)}"
+    return f"From {plain(user)} {_plain(rest, _OF_LINES)}"
 
 
 def _path(user: str, older: Sequence[str]) -> str:
@@ -125,6 +151,14 @@ def _is_signed(line: str, neighbour: str) -> bool:
     return user != "" and line.count("remote from ") == 1 and (blank + rest).endswith(f" remote from {neighbour}")
 
 
-def _line(job: Delivered, user: str, site: str) -> str:
-    date = time.strftime("%a %b %e %H:%M:%S %Y", time.gmtime(clock.seconds("UTC0", job.moment)))
-    return f"From {user} {date} remote from {site}"
+def _dated(line: str, moment: str) -> str:
+    """A line with a date, which is this moment if it has none. Exim would take a line without one for text, and the mail for that of its caller."""
+    import re  # (loaded late, since only mail needs it)
+
+    user, rest = _parted(line)
+    return line if re.match(_DATE, rest) else _line(moment, user, _system_of(line))
+
+
+def _line(moment: str, user: str, site: str) -> str:
+    date = time.strftime("%a %b %e %H:%M:%S %Y", time.gmtime(clock.seconds("UTC0", moment)))
+    return f"From {user} {date}" + (f" remote from {site}" if site else "")
