@@ -4,6 +4,10 @@
 # or `--`, and no shell reads it again.
 
 set -uf
+# Whoever uses a stream that was closed gets an error, and no other file has its number. (What is said on a closed standard error is lost.)
+true 9>&2 || exec 2>/dev/null
+true 2>/dev/null 9<&0 || exec 0>/dev/null
+true 2>/dev/null 9>&1 || exec 1</dev/null
 bin=/usr/local/bin
 front=${0##*/}
 usage=64   # the words are wrong
