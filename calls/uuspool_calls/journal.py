@@ -1,6 +1,5 @@
 """The log of a site."""
 import contextlib
-import errno
 import os
 from collections.abc import Callable
 
@@ -26,18 +25,17 @@ class Journal:
                 return False
         moment = clock.shown(self._zone, clock.now())
         line = printable(f"{moment} {system or '-'} {user or '-'} {job or '-'} {how.replace(' ', '-')} {words}")
-        try:
-            with opened(self._path, _ADD) as handle:
-                self._add(handle, f"{line}\n".encode())
-                if lasts:
-                    os.fsync(handle)
-        except OSError:
+        is_there = False
+        with contextlib.suppress(OSError), opened(self._path, _ADD) as handle:
+            is_whole = self._add(handle, f"{line}\n".encode())
+            if lasts:
+                os.fsync(handle)
+            is_there = is_whole
+        if not is_there:
             self._say(f"{self._path} cannot be written, and lacks: {line}")
-            return False
-        return True
+        return is_there
 
-    def _add(self, handle: int, line: bytes) -> None:
-        """Writes a line at once. A full disk may tear it, and it doesn't go on with one that was torn."""
+    def _add(self, handle: int, line: bytes) -> bool:
+        """Writes a line at once, and says whether all of it is there: a full disk may tear it. It doesn't go on with one that was torn."""
         text = line if read_end(self._path, 1) in (b"", b"\n") else b"\n" + line
-        if os.write(handle, text) < len(text):
-            raise OSError(errno.ENOSPC, os.strerror(errno.ENOSPC), self._path)
+        return os.write(handle, text) == len(text)
