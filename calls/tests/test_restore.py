@@ -9,7 +9,7 @@ import subprocess
 from collections.abc import Iterable
 from unittest import mock
 
-from uuspool_calls import kernel, logged, place, restore, restored, source
+from uuspool_calls import files, kernel, logged, place, restore, restored, source
 from uuspool_calls.copies import Target
 from uuspool_calls.errors import Failure, SpoolError
 from uuspool_calls.exchange import Neighbour
@@ -611,6 +611,21 @@ class Numbers(Folder):
         wanted, other = restore._wanted("taylor", {3}), restore._wanted("deliver", {3})
         for name, is_taylors, is_others in ("3.json", True, True), ("4.json", False, True), ("begun.json", True, True), ("3.lock", False, False):
             self.assertEqual((is_taylors, is_others), (wanted(name), other(name)))
+
+
+    def test_what_was_just_being_handed_to_taylor_and_is_lost_stays_taylors(self) -> None:
+        """A note of it would take it back. One of which the job is in the copy, or was killed, is brought over."""
+        for system, numbers in ("duke", "[3, 4]"), ("phs", "[4, 7]"), ("unc", "7"):
+            self.put(f"spool/taylor/{system}/begun.json", f'{{"numbers": {numbers}}}')
+            self.put(f"spool/taylor/{system}/9.json")
+        its = restore.Restoration.__new__(restore.Restoration)
+        its._place, its._source = mock.Mock(path=f"{self.folder}/spool", seen=os.stat(self.folder)), mock.Mock()
+        its._source.name, its._owner, its._again, its._is_same, its.faults = "spool.db", "", set(), True, []
+        with files.opened(f"{self.folder}/spool") as its._place.handle:
+            self.assertEqual({3, 4, 7, 9}, its._handed())
+            its._fill(Target(f"{self.folder}/made"), {3, 4, 9})
+        found = [it for it in ("duke", "phs", "unc") if os.path.exists(f"{self.folder}/made/taylor/{it}/begun.json")]
+        self.assertEqual((["duke", "unc"], []), (found, its.faults))
 
 
 class Stale(Folder):

@@ -114,7 +114,7 @@ def _make_like(handle: int, seen: os.stat_result) -> None:
 class Copier:
     """Copies files as they are at one moment: those that may be opened are opened then, and their bytes are copied by
     `finish`. This is for files that are replaced whole, and never changed. For root the owner of their folder opens them,
-    if one is given. Folders with some paths aren't copied."""
+    if one is given. Folders and files with some paths aren't copied."""
 
     def __init__(self, owners: Collection[int] = (), owner: str = "", without: Collection[str] = ()) -> None:
         import resource  # (one command needs it)
@@ -163,7 +163,7 @@ class Copier:
                     os.symlink(os.readlink(name, dir_fd=folder), name, dir_fd=target.handle)
                     if os.geteuid() == 0:
                         os.chown(name, seen.st_uid, seen.st_gid, dir_fd=target.handle, follow_symlinks=False)
-                elif not stat.S_ISDIR(seen.st_mode) and (wanted is None or wanted(name)):
+                elif not stat.S_ISDIR(seen.st_mode) and (wanted is None or wanted(name)) and f"{path}/{name}" not in self._without:
                     self._open(name, folder, target, name, f"{path}/{name}")
 
     def _enter(self, name: str, folder: int | None, path: str, target: Target, wanted: Callable[[str], bool] | None) -> None:

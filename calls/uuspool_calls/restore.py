@@ -189,11 +189,19 @@ class Restoration:
         return logged.read(self._settings.log, self._owner, self._source.word, self._source.mark, jobs, [it.word for it in self._times], pieces)
 
     def _handed(self) -> set[int]:
-        """The jobs of which notes say that Taylor UUCP has them."""
+        """The jobs of which notes say that Taylor UUCP has them, or may have them."""
         folder = f"{self._place.path}/taylor"
         with acting_as(self._owner):
             names = [name.removesuffix(".json") for system in files.names_in(folder) for name in files.names_in(f"{folder}/{system}")]
-        return {int(it) for it in names if is_number(it)}
+        return {int(it) for it in names if is_number(it)}.union(*self._being_handed().values())
+
+    def _being_handed(self) -> dict[str, set[int]]:
+        """The notes of calls that were stopped while they handed jobs to Taylor UUCP, and the jobs of each."""
+        folder = f"{self._place.path}/taylor"
+        with acting_as(self._owner):
+            paths = [path for system in files.names_in(folder) if os.path.exists(path := f"{folder}/{system}/begun.json")]
+            numbers = {path: files.read_record(path).get("numbers") for path in paths}
+        return {path: {it for it in its if isinstance(it, int)} for path, its in numbers.items() if isinstance(its, list)}
 
     def _begun(self, room: Target, name: str) -> Target:
         """A new folder for a spool, with settings for it."""
@@ -326,7 +334,8 @@ class Restoration:
         as the copy has it, because the one that is there says that it was delivered."""
         names = {it for it in os.listdir(self._place.handle) if self._is_carried(it)}
         again = [f"pieces/{it}" for it in sorted(self._again)]
-        with Copier([self._place.seen.st_uid], self._owner, [f"{self._place.path}/{it}" for it in again]) as copier:
+        lost = [path for path, numbers in self._being_handed().items() if not numbers.issubset(known)]
+        with Copier([self._place.seen.st_uid], self._owner, [*(f"{self._place.path}/{it}" for it in again), *lost]) as copier:
             for name in sorted(names):
                 self._carry(name, made, copier, known)
             self._finish(copier)
