@@ -623,7 +623,6 @@ class Numbers(Folder):
         its._source.name, its._owner, its._again, its._is_same, its.faults = "spool.db", "", set(), True, []
         with files.opened(f"{self.folder}/spool") as its._place.handle:
             self.assertEqual({3, 4, 7, 9}, its._handed())
-            os.mkdir(f"{self.folder}/made")
             its._fill(Target(f"{self.folder}/made"), {3, 4, 9})
         found = [it for it in ("duke", "phs", "unc") if os.path.exists(f"{self.folder}/made/taylor/{it}/begun.json")]
         self.assertEqual((["duke", "unc"], []), (found, its.faults))
