@@ -7,6 +7,7 @@ from unittest import mock
 from uuspool_calls import answer, call, carriers, clock, executions, forecast, handover
 from uuspool_calls.errors import Failure, SpoolError, Stopped
 from uuspool_calls.processes import Ended, Program, Watch
+from uuspool_calls.site import Site
 from uuspool_calls.spool import Due, Settled, Unpacked
 
 from .standins import LINE, Folder, Mailer, StandIn, parcel, site
@@ -14,6 +15,15 @@ from .standins import LINE, Folder, Mailer, StandIn, parcel, site
 NOTHING = b"bundle mysite duke - 1 z 5\nend\n"
 BACK, BACK_1, BACK_2, BACK_3, BACK_4 = (b"back %d\nhas 3 5\n" % number for number in range(5))
 JOB = b"bundle mysite duke - 1 z 5\njob 1 5 N ann 1 send a b\nx\nend\n"
+
+
+def put_on_the_way(test: Folder, spool: StandIn) -> Site:
+    """A site that hands mail of duke on to systems, of which unc has plain Taylor UUCP."""
+    made = site(test.folder, spool)
+    test.put("etc/forward", "duke unc phs\n")
+    test.put("lib/uuspool/carriers/taylor", mode=0o755)
+    test.put("etc/calls/unc", "taylor --no-call\n")
+    return made
 
 
 class Wire(Mailer):
@@ -59,6 +69,11 @@ class Calls(Folder):
     def test_a_call_that_moves_nothing_makes_no_answer(self) -> None:
         self.assertEqual([NOTHING], self.make([NOTHING], BACK))
         self.assertEqual(["pack", "settle", "unpack", "done"], [asked[0] for asked in self.spool.asked])
+
+    def test_mail_for_plain_taylor_is_delivered_here_first(self) -> None:
+        self.site = put_on_the_way(self, self.spool)
+        self.make([NOTHING], BACK)
+        self.assertEqual([("unpack", "duke", "phs")], [it for it in self.spool.asked if it[0] == "unpack"])
 
     def test_one_round(self) -> None:
         self.spool.settled = Settled((3,), ())
@@ -364,3 +379,12 @@ class Answers(Folder):
             self.assertEqual((64, []), (raised.exception.status, answered.call_args_list))
             self.assertEqual(0, answer.run(made.session, ["duke", "phs"]))
         self.assertEqual([("duke", ["phs"])], [it.args[2:] for it in answered.call_args_list])
+
+    def test_mail_for_plain_taylor_is_delivered_here_first(self) -> None:
+        """Only what the line of the answer names goes on at once in any case."""
+        spool = StandIn()
+        made = put_on_the_way(self, spool)
+        spool.bundles = [Ended(0, b"ours", b"")]
+        with mock.patch.object(answer, "_read", return_value=JOB), mock.patch.object(made.session.processes, "write_output"):
+            answer._answer(made.session, made, "duke", ["a"])
+        self.assertEqual([("unpack", "duke", "phs", "a"), ("answer", "--", "duke", "phs", "a")], [it for it in spool.asked if it[0] in ("unpack", "answer")])

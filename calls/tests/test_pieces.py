@@ -732,6 +732,18 @@ class HandedOn(Refused):
             shutil.rmtree(f"{self.folder}/pieces")
 
 
+    def test_mail_for_a_domain_behind_the_next_hop(self) -> None:
+        """No mailer here gets such an address, because it would carry the mail to the domain."""
+        self.put("etc/forward", "a unc\n")
+        for addresses, went in ("unc!joe@c.example unc!eve", [("unc", "rmail", "joe@c.example", "eve")]), ("unc!joe@c.example eve", []), ("phs!joe@c.example", []):
+            self.spool.asked = []
+            self.spool.parcels[1] = parcel(f"1 mysite a!ann B 2026-11-28 10:00:00 5 exec rmail {addresses}")
+            self.assertEqual(0, self.deliverer.deliver(1))
+            self.assertEqual(went, [it[it.index("--") + 1 :] for it in self.spool.asked if it[0] == "exec"])
+            if not went:
+                self.assertRegex(self.log[-1], "refused-for-good mysite takes no mail of a for .*!joe@c.example, which is no user of mysite")
+        self.assertFalse(os.path.exists(f"{self.folder}/mail"))
+
     def test_an_address_that_is_an_option_at_the_next_hop(self) -> None:
         self.put("etc/forward", "a unc *\n")
         whys = "-oX, which is no user of unc, would be an option there", "mysite lets no word of rmail begin with a hyphen: -oX"

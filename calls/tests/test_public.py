@@ -311,9 +311,9 @@ class Forwarding(Folder):
         super().setUp()
         self.path = self.put("etc/forward", "duke unc @b.example\nhub *\nmysite @mysite.example\n")
 
-    def is_taken(self, address: str, neighbour: str = "duke") -> bool:
+    def is_taken(self, address: str, neighbour: str = "duke", hop: str = "") -> bool:
         try:
-            forward.expect_allowed(self.path, "mysite", neighbour, [address])
+            forward.expect_allowed(self.path, "mysite", neighbour, [address], hop)
             return True
         except Refusal:
             return False
@@ -333,6 +333,15 @@ class Forwarding(Folder):
             self.assertTrue(self.is_taken(address), address)
         for address in "mysite!mysite!phs!joe", "mysite!", "mysite!-oX", "mysite!|id":
             self.assertFalse(self.is_taken(address), address)
+
+    def test_who_gets_mail_by_a_system_to_which_it_goes_as_a_whole(self) -> None:
+        """A mailer here would read `unc!joe@c.example` as RFC 822 does, and carry it to c.example."""
+        for address in "unc!joe@c.example", "unc!phs!joe@c.example", "mysite!unc!joe@c.example", "unc!joe":
+            self.assertEqual((True, address == "unc!joe"), (self.is_taken(address, hop="unc"), self.is_taken(address)), address)
+        for address in "phs!joe@c.example", "joe@c.example", "unc!joe@c.example@d.example", "unc!joe%c@d.example", "unc!-oX@c.example", "unc!joe@-c.example", "unc!|id@c", "unc!joe@c/../d", "unc!@c.example":
+            self.assertFalse(self.is_taken(address, hop="unc"), address)
+        for addresses, hop in (["unc!joe@c.example", "unc!eve"], "unc"), (["unc!joe@c.example", "eve"], ""), (["unc!joe@c.example", "phs!eve"], ""), (["phs!joe@c.example"], ""):
+            self.assertEqual(hop, forward.next_hop(self.path, "duke", addresses))
 
     def test_what_is_behind_the_own_name(self) -> None:
         for address, rest in ("mysite!unc!joe", "unc!joe"), ("mysite!mysite!joe", "joe"), ("mysite!", "mysite!"), ("unc!mysite!joe", "unc!mysite!joe"), ("joe", "joe"), ("mysite2!joe", "mysite2!joe"):

@@ -42,7 +42,8 @@ def run(session: Session, words: Sequence[str]) -> int:
 
 
 def _answer(session: Session, site: Site, sender: str, onward: Sequence[str]) -> None:
-    neighbour = Neighbour(site, sender, [*site.onward(sender), *onward], carriers.most_for(session, sender))
+    at_once = carriers.handed_on_at_once(session, site.onward(sender))
+    neighbour = Neighbour(site, sender, [*at_once, *onward], carriers.most_for(session, sender))
     try:
         text = neighbour.front(_read(session, sender))
         taken = neighbour.take(text, replies=True)

@@ -146,7 +146,8 @@ class Call:
         self._site, self._order, self._carrier = site, order, carrier
         self._contact = site.contacts.find(order.neighbour)
         self._most = carrier.most or (self._contact.most if carrier.answers_at_once(site.session) else 0)
-        self._neighbour = Neighbour(site, order.neighbour, site.onward(order.neighbour), self._most, self._is_over)
+        at_once = carriers.handed_on_at_once(site.session, site.onward(order.neighbour))
+        self._neighbour = Neighbour(site, order.neighbour, at_once, self._most, self._is_over)
         self._limit = carrier.limit or site.session.call_limit
         self._ends = clock.running() + self._limit
         self._closes = float("inf")  # when no exchange begins any more

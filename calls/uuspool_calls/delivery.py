@@ -95,9 +95,9 @@ class Delivery:
         if first != self._own and is_name(first) and self._asked.is_system(first):
             raise Refusal(f"{path} is where files of {first} come to {self._own}, and no others")
 
-    def _expect_forwarded(self, sender: str, addresses: Sequence[str]) -> None:
+    def _expect_forwarded(self, sender: str, addresses: Sequence[str], hop: str = "") -> None:
         if sender:
-            forward.expect_allowed(f"{self._session.etc}/forward", self._own, sender, addresses)
+            forward.expect_allowed(f"{self._session.etc}/forward", self._own, sender, addresses, hop)
 
     def public_of(self, sender: str) -> public.Public:
         """The public folder for a sender."""
@@ -226,13 +226,17 @@ class Delivery:
         if name == MAIL:
             if job.sender and not words:
                 raise Refusal(f"{name} names nobody, and {self._own} takes no recipients from the message")
-            self._expect_forwarded(job.sender, words)
+            self._expect_forwarded(job.sender, words, self._hop(job, words))
         return command
+
+    def _hop(self, job: Delivered, words: Sequence[str]) -> str:
+        """The system to which mail goes on as a whole, or nothing."""
+        return forward.next_hop(f"{self._session.etc}/forward", job.sender, words) if job.sender and job.words[0] == MAIL else ""
 
     def _run(self, job: Delivered) -> None:
         name, words = job.words[0], self._words(job)
         command = self._command(job)
-        if job.sender and name == MAIL and (hop := forward.next_hop(f"{self._session.etc}/forward", job.sender, words)):
+        if hop := self._hop(job, words):
             rest = [word.removeprefix(f"{hop}!") for word in words]
             if odd := next((word for word in rest if word.startswith("-")), None):
                 raise Refusal(f"{odd}, which is no user of {hop}, would be an option there")

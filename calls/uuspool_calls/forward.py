@@ -14,7 +14,7 @@ _MAILNAME = "/etc/mailname"  # Debian's name of the domain of this machine's mai
 _USER = r"\w[\w.+=&'~#^-]*"  # without signs by which a mailer finds another host, a file, a program or a variable
 _AT_DOMAIN = rf"{_USER}@([A-Za-z0-9.-]+)"
 _SYSTEM = r"[A-Za-z0-9._][A-Za-z0-9._-]*"  # what is handed on begins with the next one, and mustn't look like an option
-_PATH = rf"({_SYSTEM})!(?:{_SYSTEM}!)*{_USER}"
+_PATH = rf"({_SYSTEM})!(?:{_SYSTEM}!)*{_USER}(@[A-Za-z0-9][A-Za-z0-9.-]*)?"
 
 
 class Forward(NamedTuple):
@@ -38,13 +38,14 @@ def _said(words: Sequence[str]) -> Forward:
     return Forward(systems, frozenset(word[1:].lower() for word in words if word.startswith("@")), "*" in words)
 
 
-def expect_allowed(path: str, own: str, neighbour: str, addresses: Sequence[str]) -> None:
-    """Refusal unless this site takes a neighbour's mail for each of these addresses."""
+def expect_allowed(path: str, own: str, neighbour: str, addresses: Sequence[str], hop: str = "") -> None:
+    """Refusal unless this site takes a neighbour's mail for each of these addresses. If the mail as a whole goes on to a system (`hop`), they
+    may be `HOP!USER@DOMAIN`, which a mailer here would carry to the domain."""
     forward = read(path, neighbour)
     ours = _own_domains(path, own)
     domains = forward.domains | ours
     for address in addresses:
-        if not (forward.is_all or _is_allowed(_behind(own, ours, address), forward.systems, domains)):
+        if not (forward.is_all or _is_allowed(_behind(own, ours, address), forward.systems, domains, hop)):
             raise Refusal(f"{own} takes no mail of {neighbour} for {address}, which is no user of {own}: {path} says what is handed on")
 
 
@@ -74,11 +75,11 @@ def _own_domains(path: str, own: str) -> frozenset[str]:
     return read(path, own).domains | {it.lower() for it in (own, mailname, os.uname().nodename) if it}
 
 
-def _is_allowed(address: str, systems: Sequence[str], domains: frozenset[str]) -> bool:
+def _is_allowed(address: str, systems: Sequence[str], domains: frozenset[str], hop: str) -> bool:
     import re  # (loaded late, since only deliveries of mail need it)
 
-    if hop := re.fullmatch(_PATH, address):
-        return hop[1] in systems
+    if found := re.fullmatch(_PATH, address):
+        return found[1] in systems and (not found[2] or found[1] == hop)
     if found := re.fullmatch(_AT_DOMAIN, address):
         return found[1].lower() in domains
     return re.fullmatch(_USER, address) is not None

@@ -14,7 +14,7 @@ name of a carrier and its words, or is TOML:
 A file without a carrier is for a neighbour that calls here. It says how long a `piece` for it is, and a bundle (`most`)."""
 import contextlib
 import os
-from collections.abc import Callable, Mapping
+from collections.abc import Callable, Iterable, Mapping
 
 from .. import bundle
 from ..files import names_in, read_bytes
@@ -116,6 +116,12 @@ def has_plain_taylor(session: Session, neighbour: str, may: May = os.access) -> 
     with contextlib.suppress(NoCarrier):
         return find(session, neighbour, may).hands_jobs(session)
     return False
+
+
+def handed_on_at_once(session: Session, systems: Iterable[str]) -> list[str]:
+    """Those of these systems for which the spool itself hands mail on. Mail for one with plain Taylor UUCP is a job of this site first, because
+    nobody there judges what a stranger wrote, and a delivery does."""
+    return [system for system in systems if not has_plain_taylor(session, system)]
 
 
 def values_of(session: Session, neighbour: str) -> dict[str, Any]:
