@@ -14,6 +14,8 @@ usage=64   # the words are wrong
 refused=69 # the spool refuses it, or has no form for it
 later=75   # try again
 export LC_ALL=C
+# By a small limit of a file's size (ulimit -f) a write fails, and ends nothing that has queued a job.
+trap '' XFSZ
 
 # A local user may not enter the spool's folder, so he asks by sudo, which says who he is. Whatever else the owner runs may
 # take a folder, a terminal or an open file from what sudo begins, so that gets none of the user's: in a session of its own
@@ -22,29 +24,37 @@ spool=$bin/uuspool member='' by_sudo='' as_owner='' common=/var/spool/uuspool si
 most_printed=16777216 too_much=141 # the bytes that are kept of what the owner's line prints, if root asks, and its status beyond
 has_input=''                       # whether the line reads standard input
 only_members='members of the group uuspool may do this, from their next login on'
+newline='
+'
 if [ -z "${UUSPOOL_DIR-}" ] && [ -d "$common" ] && ! [ -O "$common" ] && ! [ -O uuspool.toml ] && ! [ -O / ]; then
     member=yes spool=ask_by_sudo by_sudo="env -C / setsid -w sudo -n -u $(stat -c %U "$common") -- $lib/for-user"
 fi
 
 # If not all pieces of a file are queued, none of them stays. Each names $its_pieces. If a shell can't go on, for
-# example because it can't fork, it ends with a status of its own.
+# example because it can't fork, it ends with a status of its own, also in here, unless `command` runs what can't.
 its_pieces='' stopped=''
 end() {
     status=$?
-    trap '' HUP INT TERM
+    trap '' HUP INT TERM PIPE
     has_input=''
-    [ -z "$its_pieces" ] || remove_pieces || plainly "$front: some pieces of $its_name may wait for $system: uustat -k removes them" >&2
+    [ -z "$its_pieces" ] || command eval remove_pieces || printf '%s\n' "$front: some pieces may wait for $system: uustat -k removes them" >&2
     case $status in 0 | "$usage" | "$refused" | "$later") ;; *) exit "$later" ;; esac
 }
 trap end EXIT
 
 # What queued a piece may have been killed before it said the number, so the list is searched. (If the program refuses
-# these words, it took no piece.)
+# these words, it took no piece. That the end is seen says that awk read all.)
 remove_pieces() {
-    said=$($spool list -s"$system" 2>/dev/null) || return $(($? > 2))
+    run_line list -s"$system"
+    case $how in answered) ;; refuses | misread) return 0 ;; *) return 1 ;; esac
     left=0
-    for number in $(printf '%s\n' "$said" | awk -v file="$its_pieces" '$8 == "exec" && $9 == "uuspool-piece" && $10 == file { print $1 }'); do
-        $spool --as="$user" kill "$number" >/dev/null 2>&1 || left=1
+    numbers=$(printf '%s\nend\n' "$said" | awk -v file="$its_pieces" '
+        $8 == "exec" && $9 == "uuspool-piece" && $10 == file { print $1 }
+        { last = $0 }
+        END { exit (last != "end") }') || return
+    for number in $numbers; do
+        run_line --as="$user" kill "$number"
+        [ "$how" = answered ] || left=1
     done
     return "$left"
 }
@@ -95,36 +105,55 @@ read_options() {
 
 unknown() { fail "$usage" "no option $1: see $front --help"; }
 
-# Asks the spool. $said is what the program printed. If the request fails, it prints the error and ends with a
-# status of sysexits. The program's status 2 means faulty words or faulty settings. Faulty settings are the
-# site's fault, so a message waits until they are corrected. They fail a question with right words, too. So is a clock
-# beyond what the program knows.
+# Runs a line of the program. $said is what it printed, with what it said besides unless it answered, and $how says how it ended: it
+# answered, refuses, or misread words or settings. Nobody knows it if $how is nothing: then sudo, setsid or a shell that can't fork may have
+# ended with a status that the program has, too. So whoever ran the program writes its status behind the output, and what it says
+# has to be there. Nothing begins after the program's end, so that nothing can fail then.
 # A key of the terminal ends nothing that queues a piece. What sudo warns of is no part of an answer.
-ask() {
+run_line() {
     said=$(
         [ -z "$its_pieces" ] || trap '' HUP INT TERM
         exec 3>&1
-        errors=$($spool "$@" 2>&1 >&3 3>&-)
-        ended=$?
-        if [ "$ended" -eq 0 ]; then exec >&2; fi
-        [ -z "$errors" ] || plainly "$errors"
-        exit "$ended"
-    ) && return
-    ended=$?
-    case $ended in
-    1) status=$refused ;;
-    "$too_much") status=$later said="uuspool printed more than $((most_printed >> 20)) MiB, or was ended: ask as the owner of the spool" ;;
-    2)
-        case $said in
-        'uuspool: time: MomentRange'*) status=$later ;;
-        *) if $spool name >/dev/null 2>&1; then status=$usage; else status=$later; fi ;;
-        esac
-        ;;
-    *) status=$later ;;
+        errors=$({ $spool "$@" 3>&-; printf '\n=%s' "$?" >&2; } 2>&1 >&3)
+        ended=${errors##*"$newline="} errors=${errors%"$newline="*}
+        case $ended in *[!0-9]*) ended='' ;; esac
+        [ "$ended" = 0 ] || printf %s "$errors"
+        printf '\n=%s\n' "$ended"
+        [ "$ended" != 0 ] || [ -z "$errors" ] || plainly "${errors%"$newline"}" >&2
+    )
+    case $said in *"$newline="*) ended=${said##*"$newline="} said=${said%"$newline="*} ;; *) ended='' ;; esac
+    said=${said%"$newline"} how=''
+    case $ended:$newline$said in
+    0:*) how=answered ;;
+    1:*"$newline"refused\ * | 1:*"$newline"'no route'*) how=refuses ;;
+    2:*"$newline"uuspool:\ * | 2:*"$newline"error:\ *) how=misread ;;
     esac
-    plainly "${said:-uuspool ended with status $ended, and said nothing}" >&2
-    case $member:$said in yes:'sudo: '*) fail "$status" "$only_members" ;; esac
+}
+
+# Asks the spool. If the request fails, it prints the error and ends with a status of sysexits. Faulty settings are the site's fault, so a
+# message waits until they are corrected. They fail a question with right words, too. So is a clock beyond what the program knows.
+ask() {
+    run_line "$@"
+    status=$later
+    case $how:$ended:$newline$said in
+    answered:*) return ;;
+    refuses:*) status=$refused ;;
+    misread:*"$newline"'uuspool: time: MomentRange'*) ;;
+    misread:*) if $spool name >/dev/null 2>&1; then status=$usage; fi ;;
+    :"$too_much":*) said="uuspool printed more than $((most_printed >> 20)) MiB, or was ended: ask as the owner of the spool" ;;
+    :1:*) if is_kept_out; then status=$refused; fi ;;
+    esac
+    plainly "${said:-uuspool ended with status ${ended:-unknown}, and said nothing}" >&2
+    [ "$how:$status" != ":$refused" ] || fail "$status" "$only_members"
     exit "$status"
+}
+
+# Whether sudo says that the user may not do this, and not, for example, that it can't fork.
+is_kept_out() {
+    case $member:$said in
+    yes:*'is required'* | yes:*'not allowed'* | yes:*'may not run'* | yes:*'not in the sudoers'*) ;;
+    *) return 1 ;;
+    esac
 }
 
 # Prints an answer.
@@ -147,7 +176,7 @@ pass_on() {
             } 3>&1 | stdbuf -oL tr -c "$readable" '?' >&2
         } 4>&1)
     } 5>&1
-    [ "$ended" != 1 ] || fail "$refused" "$only_members"
+    [ "$ended" != 1 ] || fail "$refused" "$only_members, and only if enough processes can begin (ulimit -u)"
     exit "${ended:-$later}"
 }
 
@@ -187,26 +216,15 @@ act_as_owner() {
     spool=$bin/uuspool
     ! [ -O "$folder" ] || return 0
     [ "$settings" = /etc/uuspool/uuspool.toml ] || export UUSPOOL_DIR="${settings%/*}"
-    as_owner="$lib/as-owner $(stat -L -c %U -- "$folder")" spool=ask_as_owner
+    as_owner="$lib/as-owner $owner" spool=ask_as_owner
 }
 
-# Runs a line as the owner, with no input but that of a job. Whatever else the owner runs may write into its pipe, so no more of it
-# is kept than fits: the status is $too_much then.
-ask_as_owner() {
-    {
-        ended=$({ {
-            [ -n "$has_input" ] || exec </dev/null
-            if [ -p /dev/fd/2 ]; then exec 2>&1; else exec 2>/dev/null; fi
-            $as_owner "$bin/uuspool" "$@"
-            echo "$?" >&4
-        } | {
-            head -c "$most_printed" >&3
-            [ "$(head -c 1 | wc -c)" -eq 0 ] || echo more >&4
-        }; } 4>&1)
-    } 3>&1
-    case $ended in '' | *[!0-9]*) ended=$too_much ;; esac
-    return "$ended"
-}
+# Runs a line as the owner, with no input but that of a job. Whatever else the owner runs may write into its pipe, so as-owner ends what
+# prints more than is kept, with the status $too_much. (A process here that copied it might not begin, though the line is carried out.)
+ask_as_owner() (
+    [ -n "$has_input" ] || exec </dev/null
+    exec "$lib/as-owner" -m "$most_printed" "$owner" "$bin/uuspool" "$@"
+)
 
 # What stands for the program then.
 no_site() {
@@ -216,8 +234,8 @@ no_site() {
 
 # Settings that a user may write lead root to no site of somebody else.
 expect_one_owner() {
-    owner=$(stat -L -c %U -- "$folder")
-    for writer in $(stat -c %U -- "$settings" && stat -L -c %U -- "$settings" "${settings%/*}"); do
+    owner=$(stat -L -c %U -- "$folder") && writers=$(stat -c %U -- "$settings" && stat -L -c %U -- "$settings" "${settings%/*}") || exit
+    for writer in $writers; do
         case $writer in root | "$owner") continue ;; esac
         fail "$later" "$writer may write $settings, but $folder, which it names, is not of $writer: correct it"
     done
@@ -233,6 +251,15 @@ queue() {
     number=${said#job } number=${number%%[!0-9]*}
 }
 
+# Prints the number of a job that waits, if it is asked for. If nobody takes it, the job waits all the same: by another status than 0 it
+# would be queued again.
+print_number() {
+    [ -n "$numbers" ] || return 0
+    trap '' PIPE
+    printf '%s\n' "$number" 2>/dev/null || plainly "$front: job $number waits, but its number cannot be written" >&2
+    trap - PIPE
+}
+
 # queue_file KIND WORD..: queues the file $input, which messages call $its_name, as a job of this kind. It goes
 # in pieces if it is larger than a job, or if a piece has to say $wishes.
 queue_file() {
@@ -245,7 +272,7 @@ queue_file() {
     else
         queue "$@" <"$input" || fail "$later" "$its_name: cannot read"
     fi
-    [ -z "$numbers" ] || printf '%s\n' "$number"
+    print_number
 }
 
 # Finds how many bytes a job for the system may have, and how many a piece has. If its entry names those of
@@ -255,7 +282,7 @@ look_at_pieces() {
     [ -f "$entry" ] && [ -r "$entry" ] && ! [ -x "$entry" ] || return 0
     named=$(awk -F '[=#]' '
         $1 ~ /^[ \t]*"?piece"?[ \t]*$/ { gsub(/[ \t_]/, "", $2); if ($2 ~ /^[0-9]+$/ && $2 + 0 >= 1000 && $2 + 0 <= 1048576) named = $2 }
-        END { print named }' "$entry")
+        END { print named }' "$entry") || fail "$later" "$entry cannot be read"
     [ -z "$named" ] || most=$named piece=$named
 }
 
@@ -267,10 +294,10 @@ queue_pieces() {
     sum=$(sha256sum <"$input") && read -r mark </proc/sys/kernel/random/uuid || fail "$later" "$its_name: cannot read"
     its_pieces=${sum%% *}.$size.$piece.$mark at=0 first=''
     while [ "$at" -eq 0 ] || [ "$at" -lt "$size" ]; do
+        [ -z "$stopped" ] || exit "$later" # (A stop that comes with the last piece changes nothing.)
         read_piece
         queue exec uuspool-piece "$its_pieces" "$at" "$@" <&4
         first=${first:-$number} at=$((at + piece))
-        [ -z "$stopped" ] || exit "$later"
     done
     number=$first its_pieces=''
     trap - HUP INT TERM
@@ -281,7 +308,7 @@ expect_room() {
     limit=$(site_says limit) || exit
     [ -n "$limit" ] || return 0
     ask queues
-    waiting=$(printf '%s\n' "$said" | awk '{ bytes += $3 } END { printf "%.0f", bytes }')
+    waiting=$(printf '%s\n' "$said" | awk '{ bytes += $3 } END { printf "%.0f", bytes }') || exit
     allowed=$((limit - limit / 20)) room=$((limit - limit / 20 - waiting))
     [ "$room" -gt 0 ] || room=0
     [ "$size" -le "$allowed" ] ||

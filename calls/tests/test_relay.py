@@ -22,7 +22,7 @@ from .standins import Folder, Quiet
 SHOWS = 'import os, stat; print(*["terminal" if os.isatty(it) else "pipe" if stat.S_ISFIFO(os.fstat(it).st_mode) else os.path.realpath(f"/proc/self/fd/{it}") for it in (0, 1, 2)], sorted(os.listdir("/proc/self/fd"))[3:-1])'
 
 
-def typed(*words: str, keeps: tuple[int, ...] = (), numbers: tuple[int, ...] = (), output: int | None = None) -> tuple[int, str]:
+def typed(*words: str, keeps: tuple[int, ...] = (), numbers: tuple[int, ...] = (), output: int | None = None, most: int | None = None) -> tuple[int, str]:
     """The status of these words that root types at a terminal, and what that shows. After each line root sends a signal. The status
     of an error is its number, and 98 that of a stop."""
     process, terminal = pty.fork()
@@ -34,7 +34,7 @@ def typed(*words: str, keeps: tuple[int, ...] = (), numbers: tuple[int, ...] = (
             os.dup2(0, 7)
             if output is not None:
                 os.dup2(output, 1)
-            status = relay.run(Program(words, "/", os.environ), keeps)
+            status = relay.run(Program(words, "/", os.environ), keeps, most)
         except OSError as error:
             status = error.errno or status
         except Stopped:
@@ -93,6 +93,13 @@ class Relay(Folder):
                 self.assertEqual((number, ""), typed("echo", "x", output=handle))
                 self.assertEqual((3, ""), typed("sh", "-c", "echo x; exit 3", output=handle))
                 self.assertEqual((128 + signal.SIGPIPE, ""), typed("yes", output=handle))
+
+    def test_what_prints_too_much_is_ended(self) -> None:
+        self.assertEqual((relay.BEYOND, ""), typed("yes", most=1000))
+        self.assertEqual((relay.BEYOND, ""), typed("sh", "-c", "trap '' PIPE; printf 123456; exit 0", most=5))
+        self.assertEqual((3, "12345"), typed("sh", "-c", "printf 12345; exit 3", most=5))
+        with self.assertRaisesRegex(Failure, "^-m x: no number of bytes: as-owner"):
+            asowner.run(Quiet(self.folder), ["-m", "x", "nobody", "true"])
 
     def test_what_is_shown_is_no_order_for_the_terminal(self) -> None:
         self.assertEqual((0, "a?[2Jb?\tü?\n"), typed("printf", "a\\033[2Jb\\r\\tü\\302\\233\\n"))
@@ -200,5 +207,5 @@ class AnotherUser(Folder):
         with self.assertRaisesRegex(Failure, "^3000000, as whom true has to run, has no account$"):
             self.session.run_as("3000000", ["true"])
         for words in [], ["nobody"]:
-            with self.assertRaisesRegex(Failure, "missing: as-owner USER PROGRAM"):
+            with self.assertRaisesRegex(Failure, "missing: as-owner .* USER PROGRAM"):
                 asowner.run(self.session, words)

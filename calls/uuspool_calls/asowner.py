@@ -1,17 +1,24 @@
-"""as-owner USER PROGRAM [WORD]..: root runs a program as the user whose the spool is, with no folder, open file, terminal or key of
-root's, and no variable but those of `Session.passed`. It has root's input unless that is a terminal or a socket, and its output
-is copied."""
+"""as-owner [-m BYTES] USER PROGRAM [WORD]..: root runs a program as the user whose the spool is, with no folder, open file, terminal or
+key of root's, and no variable but those of `Session.passed`. It has root's input unless that is a terminal or a socket, and its output
+is copied. What prints more than so many bytes is ended, as one whose output nobody reads."""
 from collections.abc import Sequence
 
-from . import relay
+from . import options, relay
 from .errors import USAGE, Failure
 from .processes import Program
 from .session import Session
+from .texts import is_number
+
+_USAGE = "as-owner [-m BYTES] USER PROGRAM [WORD].."
 
 
 def run(session: Session, words: Sequence[str]) -> int:
     """The command."""
-    if len(words) < 2:
-        raise Failure(USAGE, "a user or a program is missing: as-owner USER PROGRAM [WORD]..")
-    program = session.acting(words[0], Program(words[1:], "/", session.environment))
-    return relay.run(program, () if relay.goes_both_ways(0) else (0,))
+    given, rest = options.read(words, "m:", _USAGE)
+    if len(rest) < 2:
+        raise Failure(USAGE, f"a user or a program is missing: {_USAGE}")
+    most = given.get("m")
+    if most is not None and not is_number(most):
+        raise Failure(USAGE, f"-m {most}: no number of bytes: {_USAGE}")
+    program = session.acting(rest[0], Program(rest[1:], "/", session.environment))
+    return relay.run(program, () if relay.goes_both_ways(0) else (0,), int(most) if most else None)

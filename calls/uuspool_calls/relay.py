@@ -15,25 +15,34 @@ from .processes import Child, Program, handle_stops, kill_group
 
 _BLOCK = 65536
 _MOST_OF_A_PIPE = 1 << 20  # bytes, unless root allows more
+BEYOND = 128 + signal.SIGPIPE  # the status of what prints too much
 
 
 class _Output:
-    """Where output goes. No terminal obeys what another user writes."""
+    """Where output goes, and how many bytes of it at most. No terminal obeys what another user writes."""
 
-    def __init__(self, handle: int, wake: int) -> None:
-        self.handle, self._wake = handle, wake
+    def __init__(self, handle: int, wake: int, most: int | None) -> None:
+        self.handle, self._wake, self._left = handle, wake, most
         self.pipe, self.end = os.pipe2(os.O_CLOEXEC)
         self.fault: OSError | None = None  # why not all of it went there
         self._decoder = codecs.getincrementaldecoder("utf-8")("replace") if os.isatty(handle) else None
 
     def copy(self) -> bool:
-        """Copies what comes next. False at the end, or if nobody takes it."""
+        """Copies what comes next. False at the end, if nobody takes it, or if it is too much."""
         block = os.read(self.pipe, _BLOCK)
+        if self._left is not None:
+            self._left -= len(block)
+            if self.is_beyond():
+                return False
         try:
             _write(self.handle, self._shown(block), self._wake)
         except OSError as fault:
             self.fault = fault
         return bool(block) and not self.fault
+
+    def is_beyond(self) -> bool:
+        """Whether more came than may."""
+        return self._left is not None and self._left < 0
 
     def _shown(self, block: bytes) -> bytes:
         if not self._decoder:
@@ -68,20 +77,22 @@ class _Stops:
                 return
 
 
-def run(program: Program, keeps: Sequence[int] = ()) -> int:
-    """The status of a program. It gets these streams as they are, no other input, and pipes for its output. If it ended well, but
-    its output couldn't be written, that is an error as if it had found that itself."""
+def run(program: Program, keeps: Sequence[int] = (), most: int | None = None) -> int:
+    """The status of a program. It gets these streams as they are, no other input, and pipes for its output, of each of which so many
+    bytes are copied. If it ended well, but its output couldn't be written, that is an error as if it had found that itself."""
     outputs: list[_Output] = []
     streams = [0 if 0 in keeps else os.open(os.devnull, os.O_RDONLY | os.O_CLOEXEC)]
     with _woken_by_signals() as wake:
         for handle in 1, 2:
-            streams.append(handle if handle in keeps else _output_of(handle, outputs, wake).end)
+            streams.append(handle if handle in keeps else _output_of(handle, outputs, wake, most).end)
         child = program.start((streams[0], streams[1], streams[2]))
         _Stops(child)
         for output in outputs:
             os.close(output.end)
         _copy(child, outputs, wake)
         status = child.wait()
+    if any(output.is_beyond() for output in outputs):
+        return BEYOND
     for output in outputs:
         if output.fault and not status:
             raise output.fault
@@ -125,12 +136,12 @@ def _write(handle: int, data: bytes, wake: int) -> None:
             _wait([], [handle], wake)
 
 
-def _output_of(handle: int, outputs: list[_Output], wake: int) -> _Output:
+def _output_of(handle: int, outputs: list[_Output], wake: int, most: int | None) -> _Output:
     """One for both streams if they are the same file, so that their lines keep their order."""
     for output in outputs:
         if os.path.sameopenfile(output.handle, handle):
             return output
-    outputs.append(_Output(handle, wake))
+    outputs.append(_Output(handle, wake, most))
     return outputs[-1]
 
 
