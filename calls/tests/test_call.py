@@ -8,7 +8,7 @@ from uuspool_calls import answer, call, carriers, clock, executions, forecast, h
 from uuspool_calls.errors import Failure, SpoolError, Stopped
 from uuspool_calls.processes import Ended, Program, Watch
 from uuspool_calls.site import Site
-from uuspool_calls.spool import Due, Settled, Unpacked
+from uuspool_calls.spool import Due, Refused, Settled, Unpacked
 
 from .standins import LINE, Folder, Mailer, StandIn, parcel, site
 
@@ -24,6 +24,11 @@ def put_on_the_way(test: Folder, spool: StandIn) -> Site:
     test.put("lib/uuspool/carriers/taylor", mode=0o755)
     test.put("etc/calls/unc", "taylor --no-call\n")
     return made
+
+
+def _offering(*numbers: int) -> bytes:
+    """A bundle with jobs of these numbers."""
+    return JOB.replace(b"job 1 5 N ann 1 send a b\nx\n", b"".join(b"job %d 5 N ann 1 send a b\nx\n" % number for number in numbers))
 
 
 class Wire(Mailer):
@@ -237,6 +242,26 @@ class Calls(Folder):
             self.make([JOB], Ended(127, b"", b"no such file\n"))
         self.assertEqual((78, ["pack"]), (raised.exception.status, [words[0] for words in self.spool.asked]))
 
+    def test_a_status_of_the_neighbours_shell_is_that_of_a_failed_call(self) -> None:
+        """Otherwise no wait would begin, and the neighbour would be called each minute. It isn't if the carrier misses a program here."""
+        script, here = self.put("script", "#!/bin/sh\n", 0o755), self.site.session
+        here.environment["PATH"] = f"{self.folder}/bin"
+        for name in "ssh", "command", "taylor":
+            self.put(f"lib/uuspool/carriers/{name}", "", 0o755)
+        for name, words, fails in (
+            ("command", (script,), True), ("command", ("/nowhere",), False), ("ssh", ("host",), False), ("taylor", (), False), ("", (), True),
+        ):  # fmt: skip
+            program = f"{self.folder}/lib/uuspool/carriers/{name}" if name else script
+            carrier = carriers.Carrier("/entry", program, ("duke", *words))
+            self.assertEqual([not fails] * 2, [carrier.is_missing(here, "mysite", status) for status in (126, 127)], (name, words))
+            self.assertFalse(carrier.is_missing(here, "mysite", 1))
+        self.carrier = carriers.Carrier("/entry", script, ("duke",))
+        self.failing("sh: not found", "sh:-not-found", [JOB], Ended(127, b"", b"sh: not found\n"))
+        self.put("bin/ssh", "", 0o755)
+        self.carrier = carriers.Carrier("/entry", f"{self.folder}/lib/uuspool/carriers/ssh", ("duke", "host"))
+        for status, why in (126, "host cannot run uuspool-answer"), (127, "host has no uuspool-answer"):
+            self.failing(why, why.replace(" ", "-"), [JOB, NOTHING], *[Ended(status, b"", b"bash: no\n")] * 2)
+
     def test_what_taylor_uucp_brings_is_taken_after_each_call_by_it(self) -> None:
         for name, count in ("uucico", 1), ("taylor", 1), ("ssh", 0), ("folder", 0):
             self.put(f"lib/uuspool/carriers/{name}", "", 0o755)
@@ -285,12 +310,30 @@ class Calls(Folder):
         self.order = call.Order("duke", night=True, grade="N")
         self.assertEqual([1, 0], [len(self.make([JOB, NOTHING], BACK)), len(self.make([JOB]))])
         self.assertEqual(0, len(self.make([JOB.replace(b" z ", b" C ")])))  # (another grade is asked for)
-        self.assertEqual(1, len(self.make([JOB + b"more", NOTHING], BACK)))
+        self.assertEqual(1, len(self.make([_offering(1, 2), NOTHING], BACK)))
         self.site.contacts.change("duke", carried=clock.now() - 3700)
-        self.assertEqual(1, len(self.make([JOB + b"more", NOTHING], BACK)))
+        self.assertEqual(1, len(self.make([_offering(1, 2), NOTHING], BACK)))
         self.order = call.Order("duke", night=True, poll=True)
-        self.assertEqual(1, len(self.make([JOB + b"more", NOTHING], BACK)))
+        self.assertEqual(1, len(self.make([_offering(1, 2), NOTHING], BACK)))
         self.assertEqual([], self.site.session.printed)
+
+    def test_by_night_a_neighbour_that_only_brings_jobs_isnt_called_again(self) -> None:
+        """What the next bundle says of these is nothing new. If the neighbour takes a job, it is called again."""
+        self.order = call.Order("duke", night=True, grade="N")
+        self.spool.unpacked = Unpacked(1, ())
+        self.assertEqual(2, len(self.make([JOB, JOB], BACK_1, BACK_1)))
+        self.assertEqual(0, len(self.make([JOB.replace(b"job", b"has 7 5\njob", 1)])))
+        self.spool.settled = Settled((2,), ())
+        self.assertEqual([2, 2], [len(self.make([_offering(*numbers), JOB], BACK_1, BACK_1)) for numbers in ((1, 2), (1,))])
+
+    def test_by_night_what_the_neighbour_refused_isnt_carried_again_under_another_number(self) -> None:
+        """Only if another job waits in the first bundle, too."""
+        self.order = call.Order("duke", night=True, grade="N")
+        for again, carried in ((101,), 0), ((102, 103), 1):
+            self.spool.parcels = {1: parcel("1 duke ann N 2026-11-28 10:00:00 1 send a b", b"x")}
+            self.spool.settled = Settled((), (Refused(1, "Differs"),))
+            self.assertEqual(2, len(self.make([JOB, _offering(*again[:1]), _offering(*again)], BACK, BACK)))
+            self.assertEqual(carried, len(self.make([_offering(*again), NOTHING], BACK)))
 
     def test_by_night_a_missing_carrier_is_told_once_a_day(self) -> None:
         for order, told in (call.Order("duke", night=True), "why"), (call.Order("duke", night=True), ""), (call.Order("duke"), "why"):

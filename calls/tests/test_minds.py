@@ -7,7 +7,7 @@ import random
 from collections.abc import Callable, Iterator, Sequence
 from unittest import mock
 
-from uuspool_calls import files, move, moves, refusals, refuse
+from uuspool_calls import files, move, refusals, refuse
 from uuspool_calls.errors import Failure, SpoolError
 from uuspool_calls.exchange import finish_begun
 from uuspool_calls.jobs import Job, Parcel
