@@ -79,7 +79,7 @@ def make_plain(content: int, job: Job, own: str, folder: str) -> None:
     lines, length = _lines_of(content, plain_user if job.sender else _plain_address)
     user, moment = plain_user(job.user) or _NOBODY, f"{job.day} {job.hour}"
     is_envelope = bool(lines) and os.pread(content, 1, 0) != b">"
-    if is_envelope and (not job.sender or _parted(lines[0])[0] == user):
+    if is_envelope and (not job.sender or _is_of(lines[0], user, own)):
         lines[0] = _dated(lines[0], moment)
     elif job.sender or lines:
         lines.insert(0, _line(moment, user, own))
@@ -157,6 +157,11 @@ def _dated(line: str, moment: str) -> str:
 
     user, rest = _parted(line)
     return line if re.match(_DATE, rest) else _line(moment, user, _system_of(line))
+
+
+def _is_of(line: str, user: str, site: str) -> bool:
+    """Whether a line is of this user, and names no other system than the site."""
+    return _parted(line)[0] == user and ("remote from " not in line or _is_signed(line, site))
 
 
 def _line(moment: str, user: str, site: str) -> str:

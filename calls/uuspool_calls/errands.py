@@ -4,6 +4,7 @@ Taylor's uux reads its words again, as a shell would, and asks the neighbour for
 So a job with such a word is refused here. A word in parentheses is one word for it."""
 import re
 
+from . import forward
 from .errors import Refusal
 from .jobs import MAIL, REQUEST, Job, Wishes
 from .texts import is_name
@@ -62,6 +63,8 @@ def _execution(job: Job) -> Errand:
         raise Refusal(f"Taylor UUCP would give this word to a shell at {job.system}: {odd}")
     if command == MAIL and (odd := next((word for word in words if f"!{word}".find("!-") >= 0), None)):
         raise Refusal(f"{command} at {job.system}, or behind it, would take this address for an option: {odd}")
+    if command == MAIL and job.sender and (odd := next((word for word in words if not forward.is_address(word)), None)):
+        raise Refusal(f"{command} at {job.system} might find more than a user in this address of a neighbour's mail: {odd}")
     what = re.escape(" ".join(job.words))
     asker = [f"-a{job.user}"] if _USER.match(job.user) else []
     line = ("-r", "-j", "-z", "-p", f"-g{job.grade}", *asker, "--", f"{job.system}!{command}", *(f"({word})" for word in words))

@@ -64,6 +64,13 @@ def _behind(own: str, ours: Collection[str], address: str) -> str:
     return f"{user}@{domain}" if "." in domain and domain.lower() in ours and re.fullmatch(_USER, user) else address
 
 
+def is_address(address: str) -> bool:
+    """Whether an address is that of a user, alone, at a domain or behind systems, in which no mailer finds anything else."""
+    import re  # (loaded late, since only deliveries of mail need it)
+
+    return any(re.fullmatch(it, address) for it in (_PATH, _AT_DOMAIN, _USER))
+
+
 def next_hop(path: str, neighbour: str, addresses: Sequence[str]) -> str:
     """The system to which mail of a neighbour is handed on, as all its addresses begin with it, or nothing."""
     hops = {address.partition("!")[0] if "!" in address else "" for address in addresses}
