@@ -279,14 +279,29 @@ class Calls(Folder):
         self.assertEqual(("done", "duke"), self.spool.asked[-1])
 
     def test_what_a_bundle_brought_is_taken_back_from_taylor_uucp(self) -> None:
-        """The neighbour has both. First, what was killed or moved here."""
-        for notes, settled, count in ((), (3,), 0), (("3.json",), (), 1), (("3.json",), (3,), 2):
+        """The neighbour has both."""
+        for notes, settled, count in ((), (3,), 0), (("3.json",), (), 0), (("3.json",), (3,), 1):
             for name in notes:
                 self.put(f"taylor/duke/{name}")
             self.spool.settled = Settled(settled, ())
-            with mock.patch.object(handover, "take_back") as takes:
+            with mock.patch.object(handover, "take_back") as takes, mock.patch.object(handover, "looked", return_value=None):
                 self.make([JOB, NOTHING], BACK)
             self.assertEqual([mock.call(self.site, "duke")] * count, takes.call_args_list, (notes, settled))
+
+    def test_what_taylor_uucp_has_goes_by_bundles_now(self) -> None:
+        """Unless it is just sending that, or is gone."""
+        self.put("taylor/duke/7.json")
+        for its, options in (None, []), (mock.Mock(), []), (mock.Mock(), ["--no-jobs"]):
+            if its:
+                its.recall.return_value = {7} if options else set()
+                its.handed.return_value = [mock.Mock(number=7)]
+            with mock.patch.object(handover, "looked", return_value=its) as looked:
+                self.spool.asked.clear()
+                self.make([JOB, NOTHING], b"")
+            self.assertEqual([mock.call(self.site, "duke")], looked.call_args_list)
+            self.assertEqual(("pack", *options, "--", "duke"), self.spool.asked[0])
+            if its:
+                self.assertEqual([mock.call({7})], its.recall.call_args_list)
 
     def test_no_answer_counts_as_done(self) -> None:
         self.make([JOB], b"")

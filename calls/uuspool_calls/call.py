@@ -41,6 +41,7 @@ class Order(NamedTuple):
     poll: bool = False  # fetches, and sends no job
     grade: str = ""  # the lowest that goes and is asked for
     dry: bool = False  # only says what would go
+    keeps: bool = False  # sends no job now
 
     @staticmethod
     def read(words: Sequence[str]) -> "Order":
@@ -52,7 +53,7 @@ class Order(NamedTuple):
 
     def options(self) -> list[str]:
         """Those of `pack` and `answer`."""
-        return [*(["--no-jobs"] if self.poll else []), *([f"-g{self.grade}"] if self.grade else [])]
+        return [*(["--no-jobs"] if self.poll or self.keeps else []), *([f"-g{self.grade}"] if self.grade else [])]
 
 
 def run(session: Session, words: Sequence[str]) -> int:
@@ -161,7 +162,7 @@ class Call:
         """Makes the call."""
         self._site.session.processes.catch_stops()
         finish_begun(self._site, self._order.neighbour)
-        self._take_back()
+        self._recall()
         first = self._neighbour.pack(self._order.options())
         offered = _offered(first)
         if self._is_nothing_new(offered):
@@ -283,6 +284,16 @@ class Call:
             self._site.session.say(taken.own_fault)
         if taken.faults or taken.later:
             self._why = taken.later or taken.faults[-1]
+
+    def _recall(self) -> None:
+        """What Taylor UUCP has since it made the calls of this neighbour goes by our bundles from now on. While it is just sending some of
+        that, none of our jobs goes."""
+        if self._site.has_handed(self._order.neighbour):
+            from . import handover  # (which few neighbours need)
+
+            its = handover.looked(self._site, self._order.neighbour)
+            if its and its.recall({it.number for it in its.handed()}):
+                self._order = self._order._replace(keeps=True)
 
     def _take_back(self) -> None:
         """What Taylor UUCP has and a bundle brought, or nobody is to get any more, isn't brought by it."""

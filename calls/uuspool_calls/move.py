@@ -3,7 +3,7 @@ gets a new number. What a stop leaves half done is finished before the next call
 job in a bundle that is on its way may come to both.
 
 A file in pieces moves with all of them. If only a part of it waits, it stays, because the rest is at the neighbour, or comes
-later.
+later. So does a job that Taylor UUCP is just sending. What else Taylor has is taken out of its spool first.
 
 Mail is addressed on, from the new neighbour to the old one, so it arrives at its address. With -k its addresses
 are kept, for a neighbour that now does what the old one did."""
@@ -16,7 +16,11 @@ from .pieces import name_of
 from .session import Session
 from .site import Site, enter
 from .texts import is_name, is_number
+from .values import TYPE_CHECKING
 from .wholes import Listed, Whole
+
+if TYPE_CHECKING:
+    from .handover import Handover
 
 _USAGE = "usage: uuspool-move [-k] FROM TO [NUMBER..]"
 _PATIENCE = 10  # seconds
@@ -38,31 +42,39 @@ def run(session: Session, words: Sequence[str]) -> int:
         # (A call of this neighbour that is under way may bring it such a job.)
         if not lock.wait(_PATIENCE, session.processes.pause):
             raise Failure(LATER, f"{origin} is being called by another process")
-        parts = _move_all(site, origin, target, set(map(int, numbers)), keeps)
-    _take_back(site, origin)
-    for part in parts:
-        session.say(f"job {part.job.number} stays for {origin}, because a file moves only while all of its pieces wait: {part.what}")
-    return LATER if parts else 0
+        stay = _move_all(site, origin, target, set(map(int, numbers)), keeps)
+    for sentence in stay:
+        session.say(sentence)
+    return LATER if stay else 0
 
 
-def _take_back(site: Site, origin: str) -> None:
-    """What moved isn't brought by Taylor UUCP, too."""
-    if site.has_handed(origin):
-        from . import handover  # (which few moves need)
-
-        handover.take_back(site, origin)
-
-
-def _move_all(site: Site, origin: str, target: str, numbers: set[int], keeps: bool) -> list[Listed]:
-    """Moves all, or those with these numbers. The result has the files of which only a part waits."""
+def _move_all(site: Site, origin: str, target: str, numbers: set[int], keeps: bool) -> list[str]:
+    """Moves all, or those with these numbers. The result says which stay, and why."""
+    at_taylors = _at_taylors(site, origin)
     with site.alone():
         moves.finish_all(site)
         if not refusals.finish(site):
             raise Failure(LATER, "nothing is moved while a job that is refused cannot be removed from the spool")
         chosen, parts = _chosen(site, origin, numbers)
+        kept = at_taylors.recall({part.number for whole in chosen for part in whole.parts}) if at_taylors else set()
+        sent = [whole for whole in chosen if not kept.isdisjoint(part.number for part in whole.parts)]
         for whole in chosen:
-            _move(site, whole, target, whole.job.words if keeps else addressed_on(whole.job, origin))
-    return parts
+            if whole not in sent:
+                _move(site, whole, target, whole.job.words if keeps else addressed_on(whole.job, origin))
+    why = f"stays for {origin}, because"
+    return [
+        *(f"job {it.job.number} {why} a file moves only while all of its pieces wait: {it.what}" for it in parts),
+        *(f"job {it.job.number} {why} Taylor UUCP is just sending it, or has brought it: {it.job.what}" for it in sent),
+    ]
+
+
+def _at_taylors(site: Site, origin: str) -> "Handover | None":
+    """What Taylor UUCP has for a neighbour. What left its spool is no longer there to be moved."""
+    if not site.has_handed(origin):
+        return None
+    from . import handover  # (which few moves need)
+
+    return handover.looked(site, origin)
 
 
 def _expect_neighbour(site: Site, origin: str, target: str) -> None:
