@@ -1,4 +1,5 @@
 """Copies of folders, the turn, and which copies stay."""
+import errno
 import fcntl
 import os
 import pwd
@@ -274,6 +275,18 @@ class Journal(Folder):
         if owner:
             self.put("spool.db-journal", "", 0o600)
             self.expect(", a file of sqlite3, can't be read: Permission denied", owner)
+
+
+class Noted(Folder):
+    def test_a_copy_of_which_the_log_has_no_line(self) -> None:
+        """A full disk keeps it from the log, or whose folder is another user's. Then no older copy goes."""
+        found = mock.Mock(log=f"{self.folder}/log", zone="UTC0")
+        its = mock.Mock(_settings=found, _session=Quiet(self.folder), _owner="", faults=[])
+        backup.Backup._note(its, "mark word path")
+        self.assertEqual(([], 1), (its.faults, self.bytes_of("log").count(b" copied mark word path\n")))
+        with mock.patch("os.write", side_effect=OSError(errno.ENOSPC, "full")):
+            backup.Backup._note(its, "mark word path")
+        self.assertEqual([f"{self.folder}/log lacks the line of this copy, so all jobs of it wait again once it is put back"], its.faults)
 
 
 class Kept(Folder):

@@ -179,3 +179,17 @@ class Journals(Folder):
         os.mkfifo(f"{self.folder}/pipe")
         Journal(f"{self.folder}/pipe", "UTC0", said.append).note("duke", "ann", 7, "says", "hello")  # (Nobody reads it.)
         self.assertIn(f"{self.folder}/pipe cannot be written, and lacks: ", said[1])
+
+    def test_a_line_that_a_full_disk_tore(self) -> None:
+        """The next one is a line of its own. A line isn't there if only its beginning could be written."""
+        said: list[str] = []
+        log = Journal(self.put("log", "a\nb"), "UTC0", said.append)
+        self.assertEqual([True, True], [log.note("duke", "", "", "says", it, lasts=True) for it in ("one", "two")])
+        words = [line.split(" ")[5:] for line in self.bytes_of("log").decode().split("\n")]
+        self.assertEqual([[], [], ["says", "one"], ["says", "two"], []], words)
+        real = os.write
+        with mock.patch("os.write", lambda handle, text: real(handle, text[:30])):
+            self.assertFalse(log.note("duke", "", "", "says", "three"))
+        self.assertIn("log cannot be written, and lacks: ", said[0])
+        self.assertTrue(log.note("duke", "", "", "says", "four"))
+        self.assertRegex(self.bytes_of("log").decode(), r"\n.{30}\n.{19} duke - - says four\n\Z")
