@@ -174,12 +174,12 @@ class Clean(Folder):
     def test_old_records_of_jobs_that_are_gone(self) -> None:
         spool = StandIn([parcel()])
         here = site(self.folder, spool)
-        for name in "7", "7.lock", "8", "8.lock", "8.works", "9", "keys", "round":
+        for name in "7", ".7.new", "7.lock", "8", ".8.new", "8.lock", "8.works", "9", "keys", "round":
             self.put(f"deliver/{name}")
             os.utime(f"{self.folder}/deliver/{name}", (time.time() - 7200,) * 2)
         self.put("deliver/9")
         deliver._clean(here, [parcel().job])
-        self.assertEqual(["7", "7.lock", "9", "round"], sorted(os.listdir(f"{self.folder}/deliver")))
+        self.assertEqual([".7.new", "7", "7.lock", "9", "round"], sorted(os.listdir(f"{self.folder}/deliver")))
         self.assertEqual([("forget", "--", "mysite", "7")], spool.asked)
 
     def test_a_clock_that_jumps_takes_nothing_from_a_delivery_that_goes_on(self) -> None:

@@ -1,5 +1,6 @@
 """Programs that are run, locks, and files that are replaced."""
 import ctypes
+import errno
 import os
 import pty
 import re
@@ -406,6 +407,18 @@ class Files(Folder):
         with self.assertRaises(IsADirectoryError) as caught:
             files.replace(f"{self.folder}/x", b"data")
         self.assertEqual((f"{self.folder}/x", ["x"]), (caught.exception.filename, os.listdir(self.folder)))
+
+    def test_a_full_disk_keeps_nothing_of_what_cannot_be_written(self) -> None:
+        for name in "write", "fsync":
+            self.put("x", "before")
+            with mock.patch(f"os.{name}", side_effect=OSError(errno.ENOSPC, "full")), self.assertRaises(OSError) as caught:
+                files.write_record(f"{self.folder}/x", {"a": 1})
+            self.assertEqual((f"{self.folder}/x", ["x"], b"before"), (caught.exception.filename, os.listdir(self.folder), self.bytes_of("x")))
+        for name in "x", ".x.new", ".y.new", ".z.new":
+            self.put(name)
+        for name in "x", "y", "w":
+            files.forget(f"{self.folder}/{name}")
+        self.assertEqual([".z.new"], os.listdir(self.folder))
 
     def test_fresh(self) -> None:
         for age, minutes, fresh in (0, 1, True), (3700, 60, False), (3500, 60, True), (-86400, 60, False), (0, 0, False):

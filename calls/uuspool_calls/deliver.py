@@ -192,7 +192,7 @@ def _forget(folder: str, number: str) -> None:
     with files.Lock(f"{folder}/{number}{LOCK}") as lock:
         if lock.take() and lock.is_current():
             for end in "", _WORKS, LOCK:
-                files.remove(f"{folder}/{number}{end}")
+                files.forget(f"{folder}/{number}{end}")
 
 
 class Deliverer:

@@ -54,22 +54,28 @@ def copy_all(source: int, target: int, place: int = 0) -> None:
 
 def replace(path: str, data: bytes | int, mode: int = 0o600) -> None:
     """Makes a file of these bytes, or of those of an open file, and replaces the one that was there. The
-    file is on the disk, whole, before this ends."""
-    folder, name = os.path.split(path)
-    new = f"{folder}/.{name}.new"
-    with closing(_opened_anew(new)) as handle:
-        os.fchmod(handle, mode)
-        if isinstance(data, bytes):
-            write_all(handle, data)
-        else:
-            copy_all(data, handle)
-        os.fsync(handle)
+    file is on the disk, whole, before this ends. If that can't be, as on a full disk, nothing is left of it."""
+    new = _new_of(path)
     try:
+        with closing(_opened_anew(new)) as handle:
+            os.fchmod(handle, mode)
+            if isinstance(data, bytes):
+                write_all(handle, data)
+            else:
+                copy_all(data, handle)
+            os.fsync(handle)
         os.replace(new, path)
     except OSError as error:
-        remove(new)
+        with contextlib.suppress(OSError):
+            os.remove(new)
         raise OSError(error.errno, error.strerror, path) from None
-    sync_folder(folder)
+    sync_folder(os.path.dirname(path))
+
+
+def _new_of(path: str) -> str:
+    """The path of what is to replace a file."""
+    folder, name = os.path.split(path)
+    return f"{folder}/.{name}.new"
 
 
 def _opened_anew(path: str) -> int:
@@ -141,6 +147,12 @@ def remove(path: str) -> None:
     """Removes a file, if it is there."""
     with contextlib.suppress(FileNotFoundError):
         os.remove(path)
+
+
+def forget(path: str) -> None:
+    """Removes a file that is replaced whole, and what a process that was killed left of a new one."""
+    remove(path)
+    remove(_new_of(path))
 
 
 def remove_folder(path: str) -> None:

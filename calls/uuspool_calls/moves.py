@@ -86,10 +86,10 @@ def _finish(site: Site, number: int, note: Note, left: Sequence[Job]) -> None:
         except SpoolError as error:
             if has_begun or not error.is_final:
                 raise _half(note, str(error)) from None
-            files.remove(f"{site.folder}/moves/{number}")
+            files.forget(f"{site.folder}/moves/{number}")
             raise NotMoved(str(error)) from None
         has_begun = True
-    files.remove(f"{site.folder}/moves/{number}")
+    files.forget(f"{site.folder}/moves/{number}")
 
 
 def _move_one(site: Site, job: Job, note: Note) -> bool:

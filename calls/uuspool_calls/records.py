@@ -73,4 +73,4 @@ def _lasting(job: Job) -> Job:
 
 def forget(folder: str, number: int) -> None:
     """Forgets the record of a job."""
-    files.remove(f"{folder}/{number}")
+    files.forget(f"{folder}/{number}")
