@@ -7,13 +7,18 @@ from unittest import mock
 from uuspool_calls import answer, call, carriers, clock, executions, forecast
 from uuspool_calls.errors import Failure, SpoolError, Stopped
 from uuspool_calls.processes import Ended, Program, Watch
-from uuspool_calls.spool import Due, Settled, Unpacked
+from uuspool_calls.spool import Due, Refused, Settled, Unpacked
 
 from .standins import LINE, Folder, Mailer, StandIn, parcel, site
 
 NOTHING = b"bundle mysite duke - 1 z 5\nend\n"
 BACK, BACK_1, BACK_2, BACK_3, BACK_4 = (b"back %d\nhas 3 5\n" % number for number in range(5))
 JOB = b"bundle mysite duke - 1 z 5\njob 1 5 N ann 1 send a b\nx\nend\n"
+
+
+def _offering(*numbers: int) -> bytes:
+    """A bundle with jobs of these numbers."""
+    return JOB.replace(b"job 1 5 N ann 1 send a b\nx\n", b"".join(b"job %d 5 N ann 1 send a b\nx\n" % number for number in numbers))
 
 
 class Wire(Mailer):
@@ -260,12 +265,30 @@ class Calls(Folder):
         self.order = call.Order("duke", night=True, grade="N")
         self.assertEqual([1, 0], [len(self.make([JOB, NOTHING], BACK)), len(self.make([JOB]))])
         self.assertEqual(0, len(self.make([JOB.replace(b" z ", b" C ")])))  # (another grade is asked for)
-        self.assertEqual(1, len(self.make([JOB + b"more", NOTHING], BACK)))
+        self.assertEqual(1, len(self.make([_offering(1, 2), NOTHING], BACK)))
         self.site.contacts.change("duke", carried=clock.now() - 3700)
-        self.assertEqual(1, len(self.make([JOB + b"more", NOTHING], BACK)))
+        self.assertEqual(1, len(self.make([_offering(1, 2), NOTHING], BACK)))
         self.order = call.Order("duke", night=True, poll=True)
-        self.assertEqual(1, len(self.make([JOB + b"more", NOTHING], BACK)))
+        self.assertEqual(1, len(self.make([_offering(1, 2), NOTHING], BACK)))
         self.assertEqual([], self.site.session.printed)
+
+    def test_by_night_a_neighbour_that_only_brings_jobs_isnt_called_again(self) -> None:
+        """What the next bundle says of these is nothing new. If the neighbour takes a job, it is called again."""
+        self.order = call.Order("duke", night=True, grade="N")
+        self.spool.unpacked = Unpacked(1, ())
+        self.assertEqual(2, len(self.make([JOB, JOB], BACK_1, BACK_1)))
+        self.assertEqual(0, len(self.make([JOB.replace(b"job", b"has 7 5\njob", 1)])))
+        self.spool.settled = Settled((2,), ())
+        self.assertEqual([2, 2], [len(self.make([_offering(*numbers), JOB], BACK_1, BACK_1)) for numbers in ((1, 2), (1,))])
+
+    def test_by_night_what_the_neighbour_refused_isnt_carried_again_under_another_number(self) -> None:
+        """Only if another job waits in the first bundle, too."""
+        self.order = call.Order("duke", night=True, grade="N")
+        for again, carried in ((101,), 0), ((102, 103), 1):
+            self.spool.parcels = {1: parcel("1 duke ann N 2026-11-28 10:00:00 1 send a b", b"x")}
+            self.spool.settled = Settled((), (Refused(1, "Differs"),))
+            self.assertEqual(2, len(self.make([JOB, _offering(*again[:1]), _offering(*again)], BACK, BACK)))
+            self.assertEqual(carried, len(self.make([_offering(*again), NOTHING], BACK)))
 
     def test_by_night_a_missing_carrier_is_told_once_a_day(self) -> None:
         for order, told in (call.Order("duke", night=True), "why"), (call.Order("duke", night=True), ""), (call.Order("duke"), "why"):

@@ -4,7 +4,7 @@ A call goes on as long as it moves something. It has a limit of seconds, and one
 at a time. The status is 0 if the call was made. It is 75 if the call failed, which the spool notes. It is
 78 if nothing says how to call; that isn't the neighbour's failure, and the spool doesn't note it."""
 import os
-from collections.abc import Iterator, Sequence
+from collections.abc import Iterator, Mapping, Sequence
 from contextlib import contextmanager, suppress
 
 from . import bundle, carriers, clock, options
@@ -151,14 +151,15 @@ class Call:
         self._site.session.processes.catch_stops()
         finish_begun(self._site, self._order.neighbour)
         first = self._neighbour.pack(self._order.options())
-        if self._is_nothing_new(first):
+        offered = _offered(first)
+        if self._is_nothing_new(offered):
             return 0
         if folder := self._carrier.not_mounted():
             self._why = f"nothing is mounted at {folder}"
         else:
             self._begin()
             self._go_on(first, asks=self._asks_first())
-        self._end(first)
+        self._end(offered)
         return 0
 
     def _begin(self) -> None:
@@ -215,13 +216,13 @@ class Call:
                 return
             asks = False
 
-    def _is_nothing_new(self, first: bytes) -> bool:
-        """By night, a text that moved nothing when it was carried isn't carried again within
-        $UUSPOOL_AGAIN minutes. Its answer is still to come, or the neighbour can't take it."""
+    def _is_nothing_new(self, offered: Mapping[int, int]) -> bool:
+        """By night, jobs of which none moved when they were carried aren't carried again within
+        $UUSPOOL_AGAIN minutes. The answer is still to come, or the neighbour can't take them."""
         if not self._order.night or self._order.poll:
             return False
         minutes = self._site.session.setting("UUSPOOL_AGAIN", 60)
-        return is_fresh(self._contact.carried, minutes) and self._contact.same == _digest(first)
+        return is_fresh(self._contact.carried, minutes) and self._contact.same == _digest(offered)
 
     def _exchange(self, ours: bytes, before: bytes) -> tuple[bytes, Taken | None]:
         """One bundle there and one back. What came whole counts, even if the carrier failed."""
@@ -302,11 +303,11 @@ class Call:
             raise _not_set_up(self._site, self._order, f"{self._carrier.entry}: the carrier cannot be run: {line}")
         return line or self._why or f"{self._carrier.program} ended with status {ended.status} and said nothing"
 
-    def _end(self, first: bytes) -> None:
+    def _end(self, offered: Mapping[int, int]) -> None:
         """A call without an answer counts as done, because nobody knows more. Its jobs wait until they are
         answered."""
         neighbour, log = self._order.neighbour, self._site.log
-        self._remember(first)
+        self._remember(offered)
         if self._why:
             log.note(neighbour, "", "", "failed-call", f"{self._why}{self._carried()}")
             with suppress(SpoolError):
@@ -327,16 +328,26 @@ class Call:
     def _carried(self) -> str:
         return f"; {self._traffic}" if self._traffic.total else ""
 
-    def _remember(self, first: bytes) -> None:
-        """Keeps whether the call failed, and what its first bundle was, if that moved nothing. (If it can't be kept,
+    def _remember(self, offered: Mapping[int, int]) -> None:
+        """Keeps whether the call failed, and which jobs it offered first, if none moved. (If it can't be kept,
         more is carried next time.)"""
-        now, moved = clock.now(), self._there + self._here > 0
+        now = clock.now()
         known: dict[str, int | str | float] = {"called": now, "begun": False, "broken": bool(self._why), **self._traffic.added(self._contact)}
         if self._fell or not self._why:
             known["most"] = self._traffic.next_most(self._contact.most, self._fell)
         if not self._why:
-            known |= {"told": 0, "same": "" if moved else _digest(first), "carried": now}
+            known |= {"told": 0, "same": "" if self._there else self._next_digest(offered), "carried": now}
         self._site.contacts.change_if_possible(self._order.neighbour, **known)
+
+    def _next_digest(self, offered: Mapping[int, int]) -> str:
+        """The digest of the jobs that the next call offers first, if they are no others. What the neighbour refused has another number
+        now, and is no other job."""
+        if not self._neighbour.renumbered:
+            return _digest(offered)
+        with suppress(Failure):
+            then = _offered(self._neighbour.pack(self._order.options()))
+            return _digest(then) if then.keys() <= offered.keys() | self._neighbour.renumbered else ""
+        return ""
 
 
 class JobCall(Call):
@@ -364,11 +375,11 @@ class JobCall(Call):
     def _make(self, handover: "Handover") -> int:
         self._look(handover)
         jobs = [] if self._order.poll else handover.new(self._order.grade)
-        numbers = sorted([*(job.number for it in jobs for job in it.parts), *(it.number for it in handover.handed())])
-        first = f"\n{numbers}\n".encode()
+        numbers = [*(job.number for it in jobs for job in it.parts), *(it.number for it in handover.handed())]
+        offered = dict.fromkeys(numbers, 0)
         calls = not self._carrier.leaves_calls
         has_none = self._order.night and not self._order.poll and not numbers
-        if has_none or (calls and self._is_nothing_new(first)):
+        if has_none or (calls and self._is_nothing_new(offered)):
             return 0
         taken = handover.hand(jobs)
         if calls:
@@ -379,7 +390,7 @@ class JobCall(Call):
             return 0
         self._why = self._why or handover.fault
         self._waits = len(handover.handed())
-        self._end(first)
+        self._end(offered)
         return 0
 
     def _look(self, handover: "Handover") -> None:
@@ -398,6 +409,10 @@ def _one_word(why: str) -> str:
     return word if len(word) <= _MOST_OF_A_WORD else f"..{word[2 - _MOST_OF_A_WORD :]}"
 
 
-def _digest(text: bytes) -> str:
-    """A mark of a bundle without its first line, which may ask for another grade."""
-    return sha256(text.partition(b"\n")[2]).hexdigest()
+def _offered(text: bytes) -> dict[int, int]:
+    """The numbers of the jobs in a bundle, and their marks. What else it says, as of jobs that came, is no reason to call."""
+    return {it.number: it.mark for it in bundle.offers_in(text)}
+
+
+def _digest(offered: Mapping[int, int]) -> str:
+    return sha256(repr(sorted(offered.items())).encode()).hexdigest()

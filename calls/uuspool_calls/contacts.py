@@ -23,7 +23,7 @@ class Contact(NamedTuple):
     bytes: int = 0  # that the last calls carried, both ways, an earlier one counting half as much as the next
     seconds: float = 0.0  # in which they carried these
     told: int = 0  # when it was said last that nothing says how to call
-    same: str = ""  # the digest of a first bundle that moved nothing
+    same: str = ""  # the digest of jobs that were offered, and of which none moved
     carried: int = 0  # when that was carried
     held: bool = False  # no night calls it
     left: str = ""  # the digest of the bundle that left with the last call by Taylor UUCP

@@ -85,6 +85,7 @@ class Neighbour:
         self._bound = bundle.bound(most)
         self._waits = f"{site.folder}/calls/{name}.waits"
         self._bundles_with_stale, self._numbers_left = 0, _MOST_NUMBERS
+        self.renumbered: set[int] = set()  # the numbers that jobs got
 
     # ---- making bundles
 
@@ -271,6 +272,7 @@ class Neighbour:
                 if not said:
                     break
                 number, self._numbers_left = int(said.split()[1]), self._numbers_left - 1
+                self.renumbered.add(number)
         except (SpoolError, NotRemoved) as error:
             taken.faults.append(f"{self._name} refuses job {number} ({refused.reason}), and it cannot be queued anew: {error}")
             return
