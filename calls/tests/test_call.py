@@ -227,6 +227,26 @@ class Calls(Folder):
             self.make([JOB], Ended(127, b"", b"no such file\n"))
         self.assertEqual((78, ["pack"]), (raised.exception.status, [words[0] for words in self.spool.asked]))
 
+    def test_a_status_of_the_neighbours_shell_is_that_of_a_failed_call(self) -> None:
+        """Otherwise no wait would begin, and the neighbour would be called each minute. It isn't if the carrier misses a program here."""
+        script, here = self.put("script", "#!/bin/sh\n", 0o755), self.site.session
+        here.environment["PATH"] = f"{self.folder}/bin"
+        for name in "ssh", "command", "taylor":
+            self.put(f"lib/uuspool/carriers/{name}", "", 0o755)
+        for name, words, fails in (
+            ("command", (script,), True), ("command", ("/nowhere",), False), ("ssh", ("host",), False), ("taylor", (), False), ("", (), True),
+        ):  # fmt: skip
+            program = f"{self.folder}/lib/uuspool/carriers/{name}" if name else script
+            carrier = carriers.Carrier("/entry", program, ("duke", *words))
+            self.assertEqual([not fails] * 2, [carrier.is_missing(here, "mysite", status) for status in (126, 127)], (name, words))
+            self.assertFalse(carrier.is_missing(here, "mysite", 1))
+        self.carrier = carriers.Carrier("/entry", script, ("duke",))
+        self.failing("sh: not found", "sh:-not-found", [JOB], Ended(127, b"", b"sh: not found\n"))
+        self.put("bin/ssh", "", 0o755)
+        self.carrier = carriers.Carrier("/entry", f"{self.folder}/lib/uuspool/carriers/ssh", ("duke", "host"))
+        for status, why in (126, "host cannot run uuspool-answer"), (127, "host has no uuspool-answer"):
+            self.failing(why, why.replace(" ", "-"), [JOB, NOTHING], *[Ended(status, b"", b"bash: no\n")] * 2)
+
     def test_what_taylor_uucp_brings_is_taken_after_each_call_by_it(self) -> None:
         for name, count in ("uucico", 1), ("taylor", 1), ("ssh", 0), ("folder", 0):
             self.put(f"lib/uuspool/carriers/{name}", "", 0o755)

@@ -299,7 +299,7 @@ class Call:
         if why := self._carrier.explained(self._site.session, ended.status):
             return why
         line = plain((lines_of(ended.errors.replace(b"\r", b"")) or [b""])[-1])
-        if ended.status in (126, 127):
+        if self._carrier.is_missing(self._site.session, self._site.own, ended.status):
             raise _not_set_up(self._site, self._order, f"{self._carrier.entry}: the carrier cannot be run: {line}")
         return line or self._why or f"{self._carrier.program} ended with status {ended.status} and said nothing"
 

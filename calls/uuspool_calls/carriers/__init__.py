@@ -87,6 +87,14 @@ class Carrier(NamedTuple):
             return list(self.words[1:])
         return [self.program, *self.words]
 
+    def is_missing(self, session: Session, own: str, status: int) -> bool:
+        """Whether a status says that the carrier can't be run, or misses a program. One that began may hand on such a status of the
+        neighbour's shell."""
+        if status not in (126, 127):
+            return False
+        program = self.line(session, own)[0]
+        return (self.kind(session) != "" and program == self.program) or not session.finds(program)
+
     def explained(self, session: Session, status: int) -> str:
         """What a status of the carrier means, if that is known."""
         is_ssh = self.kind(session) == "ssh" and len(self.words) > 1 and session.finds("ssh")

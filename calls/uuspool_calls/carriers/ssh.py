@@ -12,7 +12,7 @@ from ..processes import Program
 from ..session import Session
 
 _ALWAYS = ("-T", "-o", "BatchMode=yes", "-o", "ConnectTimeout=30", "-o", "ServerAliveInterval=30", "-o", "ServerAliveCountMax=4")
-_NOT_FOUND = 127
+_NOT_EXECUTABLE, _NOT_FOUND = 126, 127
 
 
 def run(session: Session, words: Sequence[str]) -> int:
@@ -30,7 +30,7 @@ def run(session: Session, words: Sequence[str]) -> int:
 
 def explained(host: str, status: int) -> str:
     """What a status of ssh means, if that is known."""
-    return f"{host} has no uuspool-answer" if status == _NOT_FOUND else ""
+    return {_NOT_EXECUTABLE: f"{host} cannot run uuspool-answer", _NOT_FOUND: f"{host} has no uuspool-answer"}.get(status, "")
 
 
 def line(etc: str, here: str, words: Sequence[str]) -> list[str]:
