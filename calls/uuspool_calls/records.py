@@ -8,7 +8,8 @@ from .values import Any, NamedTuple
 _FIRST_WAIT, _MOST_WAIT = 600, 14400
 _MOST_DOUBLINGS = 10
 DAYS = 5  # after which a job that always failed is refused
-_LEAST_TRIES = 20  # before that: 5 days are some 34, and a clock that jumps is none
+_LEAST_TRIES = 20  # before that: a clock that jumps is none
+_TRIES = 34  # in these days
 
 
 class Tries(NamedTuple):
@@ -46,7 +47,9 @@ class Tries(NamedTuple):
         return now < self.next <= now + _MOST_WAIT
 
     def is_old(self, now: int) -> bool:
-        """Whether it failed for too long."""
+        """Whether it failed for too long. If the clock was ahead at the first try, the tries say that alone."""
+        if now < self.first:
+            return self.failed >= _TRIES
         return now - self.first > DAYS * 86400 and self.failed >= _LEAST_TRIES
 
     def after_failure(self, why: str, now: int) -> "Tries":
