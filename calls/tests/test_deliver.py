@@ -182,7 +182,7 @@ class Clean(Folder):
     def test_old_records_of_jobs_that_are_gone(self) -> None:
         spool = StandIn([parcel()])
         here = site(self.folder, spool)
-        for name in "7", ".7.new", "7.lock", "8", ".8.new", "8.lock", "8.works", "9", "keys", "round":
+        for name in "7", ".7.new", "7.lock", "8", ".8.new", "8.last", "8.lock", "8.works", "9", "keys", "round":
             self.put(f"deliver/{name}")
             os.utime(f"{self.folder}/deliver/{name}", (time.time() - 7200,) * 2)
         self.put("deliver/9")

@@ -7,6 +7,7 @@ from .values import Any, NamedTuple
 
 _FIRST_WAIT, _MOST_WAIT = 600, 14400
 _MOST_DOUBLINGS = 10
+LAST = ".last"  # ends the name of what is kept of the last piece, behind the number of the job that queues it
 DAYS = 5  # after which a job that always failed is refused
 _LEAST_TRIES = 20  # before that: a clock that jumps is none
 _TRIES = 34  # in these days
@@ -75,5 +76,6 @@ def _lasting(job: Job) -> Job:
 
 
 def forget(folder: str, number: int) -> None:
-    """Forgets the record of a job."""
-    files.forget(f"{folder}/{number}")
+    """Forgets the record of a job, and the last piece that it queues."""
+    for end in "", LAST:
+        files.forget(f"{folder}/{number}{end}")
