@@ -858,6 +858,19 @@ class Going(Folder):
             asked = self.queue(bytes((1 << 20) + 1))
         self.assertEqual((["0", "1000000"], "1048577"), ([it[-4] for it in asked], file_of(asked[0]).split(".")[1]))
 
+    def test_a_file_that_is_changed_while_it_is_cut(self) -> None:
+        """Its last piece isn't queued, so what went of it is never taken for a whole."""
+        pread = os.pread
+
+        def changing(handle: int, size: int, at: int) -> bytes:
+            if at == 1_000_000:
+                os.pwrite(handle, b"new", 2_000_000)
+            return pread(handle, size, at)
+
+        with mock.patch("os.pread", side_effect=changing), self.assertRaisesRegex(Delay, "~/f was changed while it was queued"):
+            self.queue(bytes(2_500_000))
+        self.assertEqual(["0", "1000000"], [it[-4] for it in self.spool.asked])
+
     def test_no_piece_is_queued_without_room_for_all(self) -> None:
         self.site.settings = self.site.settings._replace(limit=4_000_000)
         spool = self.site.settings.spool

@@ -128,13 +128,16 @@ def mark_of(job: str) -> str:
 
 def _cut(content: int, length: int, what: Parcelled) -> Iterator[tuple[Piece, bytes]]:
     """The pieces of an open file, and the bytes of each. (Of one that grows, what it had at the beginning.)"""
-    size, digest, at = os.fstat(content).st_size, sha256(), 0
+    size, digest, cut, at = os.fstat(content).st_size, sha256(), sha256(), 0
     while block := os.pread(content, min(1 << 20, size - at), at):
         digest.update(block)
         at += len(block)
     for at in range(0, max(1, size), length):
         piece = Piece(digest.hexdigest(), size, length, what.mark, at, what.words)
         data = os.pread(content, piece.bytes, at)
+        cut.update(data)
         if len(data) != piece.bytes:
             raise Delay(f"{what.words[1]} became shorter while it was queued")
+        if at + piece.bytes == size and cut.digest() != digest.digest():
+            raise Delay(f"{what.words[1]} was changed while it was queued")
         yield piece, data
