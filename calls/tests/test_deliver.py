@@ -89,6 +89,14 @@ class Records(Folder):
         self.assertEqual([False, True], [tries._replace(failed=20).is_old(later + it) for it in (0, 1)])
         self.assertFalse(tries._replace(failed=19).is_old(later * 10))  # (a clock that jumped)
 
+    def test_a_first_try_of_a_clock_that_was_ahead(self) -> None:
+        """Then as many tries count as there are in 5 days."""
+        tries, now, waits = records.Tries(LINE, "w1", 0, 0, int(4e9)), int(1.8e9), []
+        while not tries.is_old(now) and len(waits) < 100:
+            tries = tries.after_failure("no", now)
+            waits.append(tries.next - now)
+        self.assertAlmostEqual(records.DAYS * 86400, sum(waits), delta=14400)
+
     def test_damaged_records(self) -> None:
         for text in "", "x", "{", '{"failed": 1}', "[1]", "\xff", json.dumps({"job": LINE, "failed": "x", "next": 0, "first": 0, "why": ""}):
             self.put("7", text.encode("latin-1"))
@@ -174,7 +182,7 @@ class Clean(Folder):
     def test_old_records_of_jobs_that_are_gone(self) -> None:
         spool = StandIn([parcel()])
         here = site(self.folder, spool)
-        for name in "7", ".7.new", "7.lock", "8", ".8.new", "8.lock", "8.works", "9", "keys", "round":
+        for name in "7", ".7.new", "7.lock", "8", ".8.new", "8.last", "8.lock", "8.works", "9", "keys", "round":
             self.put(f"deliver/{name}")
             os.utime(f"{self.folder}/deliver/{name}", (time.time() - 7200,) * 2)
         self.put("deliver/9")

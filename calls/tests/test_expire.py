@@ -89,6 +89,30 @@ class Runs(Folder):
         self.run_it(30.1, 29, 3, boot="b")
         self.run_it(31.3, 30.2, boot="b")
 
+    def test_a_job_of_a_clock_that_was_ahead_is_refused_in_the_end(self) -> None:
+        """It is as old as the run that found this, unless it is made young since, or the clock is set."""
+        self.run_it(0, 1)
+        self.put_job(1, 4000)
+        self.put_job(2, 5)
+        self.put_job(3, 4000)
+        self.run_it(1, 2, 1, 2, 3)
+        self.run_it(2, 3, 1, 2, 3, words=("-w", "7", "30"))
+        self.put_job(3, 7)
+        self.put_job(4, 4000)
+        self.run_it(8.1, 9.1, 1, 2, 3, 4)
+        self.run_it(408.2, 9.2, 1, 2, 3, 4, jumps=True)
+        self.run_it(8.3, 9.3, 1, 2, 3, 4, jumps=True)
+        self.run_it(30.9, 31.9, 1, 2, 3, 4)
+        self.run_it(31.1, 32.1, 2, 3, 4)
+        self.run_it(35.1, 36.1, 3, 4)
+        self.run_it(37.1, 38.1, 4)
+        self.run_it(38.2, 39.2)
+
+    def test_a_record_of_dates_that_is_damaged(self) -> None:
+        for ahead in 7, [1], {"1 2037-01-01 00:00:00": "x", "2": None, "3": True}:
+            self.put("refused/.expired", json.dumps({"now": 1, "running": 1.5, "boot": "x", "ahead": ahead}))
+            self.assertEqual({}, expire._Last.read(self.site).ahead)
+
     def test_what_was_there_before_the_first_run_goes_by_its_date(self) -> None:
         for day in -40, -29, 1:
             self.put_job(50 + day, day)

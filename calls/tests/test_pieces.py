@@ -2,12 +2,14 @@
 import contextlib
 import errno
 import hashlib
+import itertools
 import json
 import os
 import shutil
 import signal
 import time
 import unittest
+from collections.abc import Sequence
 from functools import partial
 from unittest import mock
 
@@ -15,10 +17,11 @@ from uuspool_calls import clock, deliver, files, newest, outgoing, pieces, publi
 from uuspool_calls.delivery import Asked, Delivery, Outcome, Wishes
 from uuspool_calls.errors import Delay, Failure, Refusal, SpoolError, Stopped
 from uuspool_calls.files import memory_file
-from uuspool_calls.jobs import Delivered, Job
+from uuspool_calls.jobs import Delivered, Job, Parcel
 from uuspool_calls.pieces import COMMAND, Piece
 from uuspool_calls.processes import Child
 from uuspool_calls.values import Any
+from uuspool_calls.wholes import Whole
 
 from .standins import LINE, Folder, StandIn, aged, parcel, site
 
@@ -867,6 +870,19 @@ class Going(Folder):
             asked = self.queue(bytes((1 << 20) + 1))
         self.assertEqual((["0", "1000000"], "1048577"), ([it[-4] for it in asked], file_of(asked[0]).split(".")[1]))
 
+    def test_a_file_that_is_changed_while_it_is_cut(self) -> None:
+        """Its last piece isn't queued, so what went of it is never taken for a whole."""
+        pread = os.pread
+
+        def changing(handle: int, size: int, at: int) -> bytes:
+            if at == 1_000_000:
+                os.pwrite(handle, b"new", 2_000_000)
+            return pread(handle, size, at)
+
+        with mock.patch("os.pread", side_effect=changing), self.assertRaisesRegex(Delay, "~/f was changed while it was queued"):
+            self.queue(bytes(2_500_000))
+        self.assertEqual(["0", "1000000"], [it[-4] for it in self.spool.asked])
+
     def test_no_piece_is_queued_without_room_for_all(self) -> None:
         self.site.settings = self.site.settings._replace(limit=4_000_000)
         spool = self.site.settings.spool
@@ -898,7 +914,7 @@ class Going(Folder):
         """They may have gone to a neighbour with plain Taylor UUCP, which gets them as one job, or were moved or refused. The spool knows
         the last one by its key."""
         data, kept = bytes(2_500_000), list[str]()
-        notes = outgoing.Notes(partial(kept.append, "begins"), partial(kept.append, "ends"), lambda: kept[-1:] == ["ends"])
+        notes = outgoing.Notes(partial(kept.append, "begins"), ends=lambda last: kept.append("ends"), has_ended=lambda: kept[-1:] == ["ends"])
         asked = self.queue(data, notes=notes)
         self.assertEqual((["begins", "ends"], [False, False, True]), (kept, ["--once=mysite!7!request" in it for it in asked]))
         self.assertEqual(asked[2:], self.queue(data, notes=notes))
@@ -928,3 +944,115 @@ class Going(Folder):
         self.assertEqual(["100000", "200000"], [it[it.index(COMMAND) + 2] for it in self.queue(bytes(250_000))])  # after a stop
         self.assertEqual(1, len(self.queue(bytes(100_000))))
         self.assertEqual([(COMMAND, "-m")], [(it[5], it[-1]) for it in self.queue(b"", "-m")])
+
+
+class Stopping(StandIn):
+    """A spool that queues jobs, once under each key, and is stopped before or behind a step."""
+
+    def __init__(self, *parcels: Parcel) -> None:
+        super().__init__(parcels)
+        self.keys: dict[str, tuple[object, ...]] = {}
+        self.steps = 0  # until a stop
+
+    def step(self) -> None:
+        """A stop may come now."""
+        self.steps -= 1
+        if self.steps == 0:
+            raise Stopped
+
+    def ask(self, *words: str, given: bytes | int = b"") -> str:
+        data = given if isinstance(given, bytes) else os.pread(given, 1 << 21, 0)
+        user, kind, _, *rest = words
+        key = rest.pop(0) if rest[0].startswith("--once=") else ""
+        self.step()
+        job = (user, kind, *rest, data)
+        if key and self.keys.setdefault(key, job) != job:
+            raise SpoolError(1, "refused Differs")
+        if not key or key not in self.asked:
+            self.asked.append(key)  # type: ignore[arg-type]
+            self.next += 1
+            line = f"{self.next} {rest[1]} {user.removeprefix('--as=')} B 2026-11-28 10:00:00 {len(data)} {kind} {' '.join(rest[2:])}"
+            self.parcels[self.next] = Parcel.read(line.encode() + b"\n" + data)
+        self.step()
+        return f"job {self.next}"
+
+    def kill(self, job: Job) -> bool:
+        self.step()
+        self.parcels.pop(job.number, None)
+        self.step()
+        return True
+
+
+class Changed(Folder):
+    """A requested file that is changed after a stop, or two, while it is queued."""
+
+    CONTENTS = bytes(90), bytes(250), bytes(200) + b"x", b"y" * 301  # (of these only the first one isn't in pieces)
+
+    def setUp(self) -> None:
+        super().setUp()
+        self.enterContext(mock.patch.object(outgoing.carriers, "values_of", return_value={"piece": 100}))
+        self.enterContext(mock.patch("os.fsync"))
+        self.request = parcel("7 mysite duke!ann B 2026-11-28 10:00:00 0 request ~/f ~/g", b"")
+
+    def queue(self, data: bytes, steps: int = 0) -> bool:
+        """Queues these bytes, up to a stop. Whether that came."""
+        self.spool.steps = steps
+        replace = files.replace
+
+        def replaced(*words: Any) -> None:
+            self.spool.step()
+            replace(*words)
+            self.spool.step()
+
+        name = "mysite!7!2026-11-28.10:00:00"
+        with memory_file(data) as content, mock.patch.object(files, "replace", replaced), contextlib.suppress(Stopped):
+            job = Delivered("send", ("~/f", "~/g"), content, "duke", "duke!ann", name, "B")
+            deliver.Deliverer(self.site)._queue("duke", job, "request")
+            return False
+        return True
+
+    def begin(self) -> None:
+        """A new site, with nothing but the request."""
+        shutil.rmtree(f"{self.folder}/deliver", ignore_errors=True)
+        self.spool, self.gone = Stopping(self.request), list[Parcel]()
+        self.site = site(self.folder, self.spool)
+
+    def go(self) -> None:
+        """All that waits for the neighbour goes there."""
+        self.gone += [self.spool.parcels.pop(job.number) for job in self.spool.waiting("duke")]
+
+    def expect_one(self, contents: Sequence[bytes], *how: object) -> None:
+        """One of these contents is whole, and pieces of others are only at the neighbour."""
+        waiting = [self.spool.parcels[job.number] for job in self.spool.waiting("duke")]
+        there = {it.job.number: it for it in (*self.gone, *waiting)}
+        wholes = list(Whole.all_of([it.job for it in there.values()]))
+        self.assertEqual(1, len(wholes), how)
+        self.assertIn(b"".join(there[part.number].data for part in wholes[0].parts), contents, how)
+        left = {it.job.number for it in waiting} - {part.number for part in wholes[0].parts}
+        self.assertEqual(set(), left, how)
+
+    def test_it_comes_whole_and_once(self) -> None:
+        for first, second in itertools.permutations(self.CONTENTS, 2):
+            for goes in False, True:
+                for steps in itertools.count(1):
+                    self.begin()
+                    is_stopped = self.queue(first, steps)
+                    if goes:
+                        self.go()
+                    self.assertFalse(self.queue(second))
+                    self.expect_one((first, second), len(first), len(second), goes, steps)
+                    self.assertFalse(self.queue(first))
+                    self.expect_one((first, second), len(first), len(second), goes, steps)
+                    if not is_stopped:
+                        break
+
+    def test_it_comes_whole_and_once_though_it_is_changed_twice(self) -> None:
+        first, second, third = self.CONTENTS[1:]
+        for steps, more, goes in itertools.product(range(1, 16), range(1, 20, 2), (False, True)):
+            self.begin()
+            self.queue(first, steps)
+            if goes:
+                self.go()
+            self.queue(second, more)
+            self.assertFalse(self.queue(third))
+            self.expect_one((first, second, third), steps, more, goes)

@@ -1,14 +1,15 @@
 """What the spool is asked, and what its answers mean; and the log."""
+import contextlib
 import errno
 import os
 import signal
 import time
-from collections.abc import Callable
+from collections.abc import Callable, Iterator
 from unittest import mock
 
 from uuspool_calls import deliver, refuse
 from uuspool_calls.errors import Failure, SpoolError
-from uuspool_calls.files import Lock
+from uuspool_calls.files import Lock, closing
 from uuspool_calls.jobs import Job
 from uuspool_calls.journal import Journal
 from uuspool_calls.processes import Child, Ended, Processes, Program
@@ -147,23 +148,32 @@ class Kills(Folder):
 
     def expect_kept(self, path: str, work: Callable[[Site], object]) -> None:
         """Others get a lock only once the line has ended."""
-        for name in "begun", "may-end":
-            os.mkfifo(f"{self.folder}/{name}")
-        waits = self.put("waits", "#!/bin/sh\necho now >begun\nread _ <may-end\n", 0o755)
+        waits = self.put("waits", "#!/bin/sh\necho $$ >new\nmv new begun\nexec sleep 1000\n", 0o755)
         here = site(self.folder, StandIn())
         here.spool = Spool([waits], self.folder, dict(os.environ), Processes())
         child = Child(lambda: work(here) and 1 or 0)
-        with open(f"{self.folder}/begun", encoding="ascii") as begun:
-            begun.read()
-        child.kill()
-        self.assertEqual(128 + signal.SIGKILL, child.wait())
-        with Lock(f"{self.folder}/{path}") as lock:
+        ends = time.monotonic() + 60
+        while not os.path.exists(f"{self.folder}/begun"):
+            self.assertLess(time.monotonic(), ends)
+            time.sleep(0.01)
+        with opened_process(int(self.bytes_of("begun"))) as line, Lock(f"{self.folder}/{path}") as lock:
+            child.kill()
+            self.assertEqual(128 + signal.SIGKILL, child.wait())
             self.assertFalse(lock.take(), path)
-            with open(f"{self.folder}/may-end", "w", encoding="ascii") as may_end:
-                may_end.write("now\n")
+            signal.pidfd_send_signal(line, signal.SIGKILL)
             self.assertTrue(lock.wait(60, time.sleep), path)
-        for name in "begun", "may-end":
-            os.remove(f"{self.folder}/{name}")
+        os.remove(f"{self.folder}/begun")
+
+
+@contextlib.contextmanager
+def opened_process(number: int) -> Iterator[int]:
+    """A process, which is ended then."""
+    with closing(os.pidfd_open(number)) as handle:
+        try:
+            yield handle
+        finally:
+            with contextlib.suppress(ProcessLookupError):
+                signal.pidfd_send_signal(handle, signal.SIGKILL)
 
 
 class Journals(Folder):

@@ -31,6 +31,7 @@ _USAGE = "usage: uuspool-deliver [NUMBER..]"
 _KILLED = 128  # the least status of a process that a signal ended
 _NEW = 3600  # seconds in which a record's job may have just come
 LOCK, _WORKS = ".lock", ".works"  # of a job, behind its number
+_MOST_OF_A_LAST = 1 << 21  # bytes of a piece with its line
 _MARGIN = 15  # seconds until a command that is ended has ended
 _TAKING = 30  # seconds for which a round waits for what neighbours brought
 _ROUND = 300  # seconds after which a round begins no more deliveries
@@ -191,7 +192,7 @@ def _forget(folder: str, number: str) -> None:
     """Removes what is kept of a job, unless a process delivers it: the clock may have jumped since that began."""
     with files.Lock(f"{folder}/{number}{LOCK}") as lock:
         if lock.take() and lock.is_current():
-            for end in "", _WORKS, LOCK:
+            for end in "", records.LAST, _WORKS, LOCK:
                 files.forget(f"{folder}/{number}{end}")
 
 
@@ -298,15 +299,32 @@ class Deliverer:
         key = f"{self._own}!{number}!{why}"
         what = outgoing.Parcelled(system, job.user, job.grade, key, outgoing.mark_of(job.name), (job.kind, *job.words))
         try:
-            note = partial(self._note_pieces, number)
-            outgoing.queue(self._site, what, job.content, outgoing.Notes(note, partial(note, all_but_one=True), lambda: self._tries(number).all_but_one))
+            outgoing.queue(self._site, what, job.content, self._notes(number))
         except SpoolError as error:
             # (Before a stop it was queued, and the file has changed since.)
-            if error.status == 1 and str(error).endswith("Differs"):
+            if error.differs:
                 return
             if error.is_final:
                 raise Refusal(f"{job.words[0]} cannot be sent from {self._own}: {error}") from None
             raise Delay(f"{job.words[0]} cannot be sent from {self._own} now: {error}") from None
+
+    def _notes(self, number: int) -> outgoing.Notes:
+        """What is kept while the pieces of a job are queued."""
+        path, note = f"{self._folder}/{number}", partial(self._note_pieces, number)
+
+        def end(last: outgoing.Last) -> None:
+            with self._site.writing("deliver"):
+                files.replace(f"{path}{records.LAST}", " ".join(last.words).encode() + b"\n" + last.data)
+            note(all_but_one=True)
+
+        def last() -> outgoing.Last | None:
+            text = files.read_bytes(f"{path}{records.LAST}", _MOST_OF_A_LAST)
+            if text is None or not self._tries(number).all_but_one:
+                return None
+            line, _, data = text.partition(b"\n")
+            return outgoing.Last(tuple(line.decode().split(" ")), data)
+
+        return outgoing.Notes(note, lambda: os.path.exists(path), end, lambda: self._tries(number).all_but_one, last)
 
     def _note_pieces(self, number: int, all_but_one: bool = False) -> None:
         """Pieces have the moment of their job in their mark, and in their bytes if they are mail. So it is noted, because after a

@@ -33,6 +33,12 @@ class SpoolError(Exception):
         return self.status == 1 or (self.status == 2 and not str(self).startswith(_OF_THE_SITE))
 
 
+    @property
+    def differs(self) -> bool:
+        """Whether the spool has another job under the same key."""
+        return self.status == 1 and str(self).endswith("Differs")
+
+
 @contextlib.contextmanager
 def spool_needed(otherwise: str) -> Iterator[None]:
     """If the spool doesn't do a line, the command ends with this and what the spool said."""

@@ -7,8 +7,10 @@ from .values import Any, NamedTuple
 
 _FIRST_WAIT, _MOST_WAIT = 600, 14400
 _MOST_DOUBLINGS = 10
+LAST = ".last"  # ends the name of what is kept of the last piece, behind the number of the job that queues it
 DAYS = 5  # after which a job that always failed is refused
-_LEAST_TRIES = 20  # before that: 5 days are some 34, and a clock that jumps is none
+_LEAST_TRIES = 20  # before that: a clock that jumps is none
+_TRIES = 34  # in these days
 
 
 class Tries(NamedTuple):
@@ -46,7 +48,9 @@ class Tries(NamedTuple):
         return now < self.next <= now + _MOST_WAIT
 
     def is_old(self, now: int) -> bool:
-        """Whether it failed for too long."""
+        """Whether it failed for too long. If the clock was ahead at the first try, the tries say that alone."""
+        if now < self.first:
+            return self.failed >= _TRIES
         return now - self.first > DAYS * 86400 and self.failed >= _LEAST_TRIES
 
     def after_failure(self, why: str, now: int) -> "Tries":
@@ -72,5 +76,6 @@ def _lasting(job: Job) -> Job:
 
 
 def forget(folder: str, number: int) -> None:
-    """Forgets the record of a job."""
-    files.forget(f"{folder}/{number}")
+    """Forgets the record of a job, and the last piece that it queues."""
+    for end in "", LAST:
+        files.forget(f"{folder}/{number}{end}")
