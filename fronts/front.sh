@@ -27,7 +27,7 @@ only_members='members of the group uuspool may do this, from their next login on
 newline='
 '
 if [ -z "${UUSPOOL_DIR-}" ] && [ -d "$common" ] && ! [ -O "$common" ] && ! [ -O uuspool.toml ] && ! [ -O / ]; then
-    member=yes spool=ask_by_sudo by_sudo="env -C / setsid -w sudo -n -u $(stat -c %U "$common") -- $lib/for-user"
+    member=yes spool=ask_by_sudo by_sudo="env -C / setsid -w sudo -n -u $(stat -L -c %U "$common") -- $lib/for-user"
 fi
 
 # If not all pieces of a file are queued, none of them stays. Each names $its_pieces. If a shell can't go on, for
