@@ -286,12 +286,12 @@ look_at_pieces() {
     [ -z "$named" ] || most=$named piece=$named
 }
 
-# Each piece says which file it belongs to, by sum, size, length of a piece and a mark of its own, where it
+# (Of a file that grows, what it had at the beginning goes.) Each piece says which file it belongs to, by sum, size, length of a piece and a mark of its own, where it
 # begins, and what is to be done with the whole. The number of the first is that of the file.
 queue_pieces() {
     [ "$size" -le "$most" ] || expect_room "$@"
     trap 'stopped=yes' HUP INT TERM
-    sum=$(sha256sum <"$input") && read -r mark </proc/sys/kernel/random/uuid || fail "$later" "$its_name: cannot read"
+    sum=$(head -c "$size" <"$input" | sha256sum) && read -r mark </proc/sys/kernel/random/uuid || fail "$later" "$its_name: cannot read"
     its_pieces=${sum%% *}.$size.$piece.$mark at=0 first=''
     while [ "$at" -eq 0 ] || [ "$at" -lt "$size" ]; do
         [ -z "$stopped" ] || exit "$later" # (A stop that comes with the last piece changes nothing.)
@@ -337,7 +337,7 @@ read_piece() {
     wanted=$((size - at))
     [ "$wanted" -le "$piece" ] || wanted=$piece
     make_file
-    dd if="$input" bs="$piece" skip="$((at / piece))" count=1 iflag=fullblock status=none >&3 &&
+    dd if="$input" bs="$piece" skip="$((at / piece))" count="$wanted" iflag=fullblock,count_bytes status=none >&3 &&
         [ "$(stat -L -c %s /dev/fd/3)" = "$wanted" ] ||
         fail "$later" "$its_name: a piece of it cannot be read whole, because it became shorter or ${TMPDIR:-/tmp} is full: queue it again"
 }
