@@ -27,7 +27,7 @@ only_members='members of the group uuspool may do this, from their next login on
 newline='
 '
 if [ -z "${UUSPOOL_DIR-}" ] && [ -d "$common" ] && ! [ -O "$common" ] && ! [ -O uuspool.toml ] && ! [ -O / ]; then
-    member=yes spool=ask_by_sudo by_sudo="env -C / setsid -w sudo -n -u $(stat -c %U "$common") -- $lib/for-user"
+    member=yes spool=ask_by_sudo by_sudo="env -C / setsid -w sudo -n -u $(stat -L -c %U "$common") -- $lib/for-user"
 fi
 
 # If not all pieces of a file are queued, none of them stays. Each names $its_pieces. If a shell can't go on, for
@@ -286,12 +286,12 @@ look_at_pieces() {
     [ -z "$named" ] || most=$named piece=$named
 }
 
-# Each piece says which file it belongs to, by sum, size, length of a piece and a mark of its own, where it
+# (Of a file that grows, what it had at the beginning goes.) Each piece says which file it belongs to, by sum, size, length of a piece and a mark of its own, where it
 # begins, and what is to be done with the whole. The number of the first is that of the file.
 queue_pieces() {
-    [ "$size" -le "$most" ] || expect_room
+    [ "$size" -le "$most" ] || expect_room "$@"
     trap 'stopped=yes' HUP INT TERM
-    sum=$(sha256sum <"$input") && read -r mark </proc/sys/kernel/random/uuid || fail "$later" "$its_name: cannot read"
+    sum=$(head -c "$size" <"$input" | sha256sum) && read -r mark </proc/sys/kernel/random/uuid || fail "$later" "$its_name: cannot read"
     its_pieces=${sum%% *}.$size.$piece.$mark at=0 first=''
     while [ "$at" -eq 0 ] || [ "$at" -lt "$size" ]; do
         [ -z "$stopped" ] || exit "$later" # (A stop that comes with the last piece changes nothing.)
@@ -303,18 +303,33 @@ queue_pieces() {
     trap - HUP INT TERM
 }
 
-# All pieces need room in the spool, of which a twentieth stays for other jobs. If only some fitted, they would keep those out.
+# expect_room WORD..: all pieces with these words need room in the spool, of which a twentieth stays for other jobs. If only some
+# fitted, they would keep those out. (A job that waits takes about 400 bytes besides its own.)
 expect_room() {
     limit=$(site_says limit) || exit
     [ -n "$limit" ] || return 0
     ask queues
-    waiting=$(printf '%s\n' "$said" | awk '{ bytes += $3 } END { printf "%.0f", bytes }') || exit
+    waiting=$(printf '%s\n' "$said" | awk '{ bytes += $3 + 400 * $2 } END { printf "%.0f", bytes }') || exit
+    count_room "$*"
     allowed=$((limit - limit / 20)) room=$((limit - limit / 20 - waiting))
     [ "$room" -gt 0 ] || room=0
-    [ "$size" -le "$allowed" ] ||
-        fail "$refused" "$its_name has $size bytes, and the spool takes files of $allowed bytes at most: its limit is $limit"
-    [ "$size" -le "$room" ] ||
-        fail "$later" "$its_name has $size bytes, and the spool has room for $room: queue it once calls made room, or with a larger limit in the settings"
+    [ "$needed" -le "$allowed" ] ||
+        fail "$refused" "$its_name has $size bytes and needs $needed of the spool, which takes $allowed of a file at most: its limit is $limit"
+    [ "$needed" -le "$room" ] ||
+        fail "$later" "$its_name has $size bytes and needs $needed of the spool, which has room for $room: queue it once calls made room, or with a larger limit in the settings"
+}
+
+# count_room WORDS: $needed is how many bytes of the spool's file all pieces need. The bytes of a piece and its words, with the about 250
+# bytes of its number, name and place, are a row each, and two rows larger than half a page of 4,096 bytes share none.
+count_room() {
+    whole=$((size / piece)) rest=$((size % piece))
+    count_row "$((250 + ${#1}))" && needed=$((row * (whole + (rest > 0))))
+    count_row "$piece" && needed=$((needed + row * whole))
+    [ "$rest" -eq 0 ] || { count_row "$rest" && needed=$((needed + row)); }
+}
+
+count_row() {
+    if [ "$1" -le 2030 ]; then row=$((4096 / (4076 / ($1 + 8)) + 1)); else row=$(($1 + $1 / 1000 + 2048)); fi
 }
 
 # Reads a piece into a file without a name, which is descriptor 4. A piece is queued only if it is whole.
@@ -322,7 +337,7 @@ read_piece() {
     wanted=$((size - at))
     [ "$wanted" -le "$piece" ] || wanted=$piece
     make_file
-    dd if="$input" bs="$piece" skip="$((at / piece))" count=1 iflag=fullblock status=none >&3 &&
+    dd if="$input" bs="$piece" skip="$((at / piece))" count="$wanted" iflag=fullblock,count_bytes status=none >&3 &&
         [ "$(stat -L -c %s /dev/fd/3)" = "$wanted" ] ||
         fail "$later" "$its_name: a piece of it cannot be read whole, because it became shorter or ${TMPDIR:-/tmp} is full: queue it again"
 }

@@ -13,7 +13,7 @@ from collections.abc import Sequence
 from functools import partial
 from unittest import mock
 
-from uuspool_calls import clock, deliver, files, newest, outgoing, pieces, public, records, refusals, refuse, works
+from uuspool_calls import clock, deliver, figures, files, newest, outgoing, pieces, public, records, refusals, refuse, works
 from uuspool_calls.delivery import Asked, Delivery, Outcome, Wishes
 from uuspool_calls.errors import Delay, Failure, Refusal, SpoolError, Stopped
 from uuspool_calls.files import memory_file
@@ -842,6 +842,14 @@ class Older(Arrivals):
         self.assertEqual(0, refusals.tell(self.site))
 
 
+def largest(room: int) -> int:
+    """How many bytes a file in pieces may have that needs so much of the spool."""
+    size = room
+    while figures.room_of(size, pieces.SIZE, len(f"{COMMAND} {SUM}.{size}.{pieces.SIZE}.7-x 0 send ~/f ~/g")) > room:
+        size -= 1
+    return size
+
+
 class Going(Folder):
     def setUp(self) -> None:
         super().setUp()
@@ -887,9 +895,10 @@ class Going(Folder):
         self.site.settings = self.site.settings._replace(limit=4_000_000)
         spool = self.site.settings.spool
         os.makedirs(os.path.dirname(spool), exist_ok=True)
+        large, small = largest(3_800_000), largest(1_752_000)
         for pages, free, size, why in (
-            (0, 0, 3_800_000, ""), (0, 0, 3_800_001, "takes files of 3800000 bytes at most: its limit is 4000000"), (900, 400, 1_752_000, ""),
-            (900, 400, 1_752_001, "/f has 1752001 bytes, and the spool of mysite has room for 1752000 bytes of a file: it goes once calls"), (999, 0, 1_048_577, "has room for 0 bytes"),
+            (0, 0, large, ""), (0, 0, large + 1, "needs 3800001 of the spool of mysite, which takes 3800000 of a file at most: its limit is 4000000"), (900, 400, small, ""),
+            (900, 400, small + 1, f"/f has {small + 1} bytes and needs 1752001 of the spool of mysite, which has room for 1752000: it goes once calls"), (999, 0, 1_048_577, "has room for 0:"),
         ):  # fmt: skip
             with open(spool, "wb") as file:
                 file.write(bytes(36) + free.to_bytes(4, "big"))
@@ -901,6 +910,17 @@ class Going(Folder):
                 self.queue(bytes(size))
             self.assertEqual([], self.spool.asked)
         self.assertEqual(1, len(self.queue(bytes(1 << 20))))
+
+    def test_small_pieces_need_more_room_than_their_bytes(self) -> None:
+        # (What the program's file really grew by.)
+        for size, length, words, grew in (1_000_000, 1000, 171, 1_265_664), (1_000_000, 1000, 2156, 5_173_248), (2_100_000, 2100, 171, 4_345_856):
+            self.assertTrue(grew <= figures.room_of(size, length, words) <= grew * 1.1)
+        self.put("etc/calls/duke", "piece = 1000\n")
+        self.site.settings = self.site.settings._replace(limit=4_000_000)
+        with self.assertRaisesRegex(Refusal, "/f has 3500000 bytes and needs 4[0-9]* of the spool"):
+            self.queue(bytes(3_500_000))
+        self.assertEqual([], self.spool.asked)
+        self.assertEqual(2500, len(self.queue(bytes(2_500_000))))
 
     def test_what_waits_needs_no_room_again(self) -> None:
         data = bytes(2_500_000)

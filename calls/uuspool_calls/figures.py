@@ -18,6 +18,8 @@ _PAGE = 4096  # bytes
 _FREE = slice(36, 40)  # where the head of an SQLite database has the number of its free pages
 _NEARLY = 4, 5  # of the limit: soon nothing may be added
 _SPARE = 20  # a part of the limit stays free of files in pieces: one of so many
+_FULL, _SHARED = 4076, 2030  # bytes that are kept in a page, and those of the largest row that shares one
+_ROW, _BESIDES = 8, 100  # bytes of a row, and of a job beside its words
 _Ask = Callable[..., Ended]  # a line of the program, as the spool's user
 _ODD = "uuspool printed something else than systems: try again, and see what else runs as its user"
 
@@ -62,6 +64,20 @@ def use_of(found: Settings) -> Use:
     seen, head = files.look(found.spool), files.read_bytes(found.spool, _FREE.stop) or b""
     free = int.from_bytes(head[_FREE], "big") * _PAGE
     return Use(max(0, (seen.st_size if seen else 0) - free), found.limit)
+
+
+def room_of(size: int, length: int, words: int) -> int:
+    """How many bytes of the spool's file a file of this size needs in pieces of this length, each with so many bytes of words: its bytes
+    and its words are a row each, and two rows larger than half a page share none."""
+    count, rest = divmod(size, length)
+    last = [_room_of_row(rest)] if rest or not count else []
+    return count * _room_of_row(length) + sum(last) + (count + len(last)) * _room_of_row(words + _BESIDES)
+
+
+def _room_of_row(size: int) -> int:
+    if size <= _SHARED:
+        return -(-_PAGE // (_FULL // (size + _ROW)))
+    return size + size // 1000 + _PAGE // 2
 
 
 class Figures(NamedTuple):

@@ -111,14 +111,15 @@ def _expect_room(site: Site, what: Parcelled, first: Piece) -> None:
     nobody's mail is taken. Refusal if there never is room."""
     from . import figures  # (most that is queued is no file in pieces)
 
-    use, rest = figures.use_of(site.settings), first.size - first.at
-    said = f"{what.words[1]} has {first.size} bytes, and the spool of {site.own}"
+    use, words = figures.use_of(site.settings), len(" ".join(first.line()))
     if not use.limit:
         return
-    if rest > use.most:
-        raise Refusal(f"{said} takes files of {use.most} bytes at most: its limit is {use.limit}")
-    if use.used + rest > use.most:
-        raise Delay(f"{said} has room for {max(0, use.most - use.used)} bytes of a file: it goes once calls or deliveries made room, or with a larger limit in the settings")
+    needed = figures.room_of(first.size - first.at, first.length, words)
+    said = f"{what.words[1]} has {first.size} bytes and needs {needed} of the spool of {site.own}, which"
+    if needed > use.most:
+        raise Refusal(f"{said} takes {use.most} of a file at most: its limit is {use.limit}")
+    if use.used + needed > use.most:
+        raise Delay(f"{said} has room for {max(0, use.most - use.used)}: it goes once calls or deliveries made room, or with a larger limit in the settings")
 
 
 def mark_of(job: str) -> str:
