@@ -802,6 +802,45 @@ class HandedOn(Refused):
         self.assertEqual((True, 1), (record.all_but_one, record.failed))
 
 
+    def test_a_note_of_before_a_restoration_counts_for_nothing(self) -> None:
+        """The spool that was put back may know none of the pieces that were queued before. A note that was written since then counts."""
+        self.put("etc/forward", "a unc\n")
+        text = b"Subject: x\n\n" + bytes((1 << 20) - 20)
+        self.spool.parcels[1] = parcel(f"1 mysite a!ann B 2026-11-28 10:00:00 {len(text)} exec rmail unc!joe", text)
+        queued, ask, is_stopped = list[str](), self.spool.ask, True
+
+        def stop_before_last(*words: str, given: bytes | int = b"") -> str:
+            is_last = "--once=mysite!1!onward" in words
+            if is_last and is_stopped:
+                raise Stopped
+            queued.append(words[words.index(COMMAND) + 2] if COMMAND in words else "")
+            return ask(*words, given=given)
+
+        with mock.patch.object(self.spool, "ask", stop_before_last):
+            for times in "", "2 1000 0f\n", "2 1000 0f\n", "2 1000 0f\n2 2000 0e\n":
+                self.put("restored", times)
+                self.assertRaises(Stopped, self.deliverer.deliver, 1)
+            self.assertEqual(["0", "0", "0"], queued)
+            is_stopped = False
+            self.assertEqual(0, self.deliverer.deliver(1))
+        self.assertEqual(["0", "0", "0", "1000000"], queued)
+
+    def test_a_note_of_an_older_version(self) -> None:
+        """It has the mark of the job that brought the last piece, under which the others were queued."""
+        self.put("etc/forward", "a unc\n")
+        data = b"Subject: x\n\n" + bytes(1_500_000)
+        length, file = 1 << 20, f"{hashlib.sha256(data).hexdigest()}.{len(data)}.{1 << 20}.m"
+        for number, at in (1, 0), (2, length):
+            part = data[at : at + length]
+            self.spool.parcels[number] = parcel(f"{number} mysite a!ann B 2026-11-28 10:00:00 {len(part)} exec {COMMAND} {file} {at} exec rmail unc!joe", part)
+        note = records.Tries(self.spool.parcels[2].job.line, "w1", 0, 0, 1, all_but_one=True)._asdict()
+        files.write_record(f"{self.folder}/deliver/2", {name: it for name, it in note.items() if name not in ("mark", "restored")})
+        for number in 1, 2:
+            self.assertEqual(0, self.deliverer.deliver(number))
+        asked = [it for it in self.spool.asked if it[0] == "exec"]
+        self.assertEqual([("2-2026-11-28-10:00:00", "1000000")], [(file_of(it).rpartition(".")[2], it[it.index(COMMAND) + 2]) for it in asked])
+
+
 class Older(Arrivals):
     """Pieces of an older version, which are 1,000,000 bytes long."""
 

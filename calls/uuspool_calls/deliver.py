@@ -298,8 +298,7 @@ class Deliverer:
         key = f"{self._own}!{number}!{why}"
         what = outgoing.Parcelled(system, job.user, job.grade, key, outgoing.mark_of(job.name), (job.kind, *job.words))
         try:
-            note = partial(self._note_pieces, number)
-            outgoing.queue(self._site, what, job.content, outgoing.Notes(note, partial(note, all_but_one=True), lambda: self._tries(number).all_but_one))
+            outgoing.queue(self._site, what, job.content, self._notes(number, what.mark))
         except SpoolError as error:
             # (Before a stop it was queued, and the file has changed since.)
             if error.status == 1 and str(error).endswith("Differs"):
@@ -308,11 +307,23 @@ class Deliverer:
                 raise Refusal(f"{job.words[0]} cannot be sent from {self._own}: {error}") from None
             raise Delay(f"{job.words[0]} cannot be sent from {self._own} now: {error}") from None
 
-    def _note_pieces(self, number: int, all_but_one: bool = False) -> None:
-        """Pieces have the moment of their job in their mark, and in their bytes if they are mail. So it is noted, because after a
-        stop the same pieces have to be queued, and none if all of them have gone."""
-        with self._site.writing("deliver"):
-            self._tries(number)._replace(all_but_one=all_but_one).write(self._folder, number)
+    def _notes(self, number: int, mark: str) -> outgoing.Notes:
+        """What is noted of the pieces in which a job is queued for a neighbour. They may have the moment of their job in their mark, and in
+        their bytes. So it is noted, because after a stop the same pieces have to be queued, and none if all of them have gone. If the
+        spool was put back since, it doesn't know all that a note says."""
+        from . import restored  # (which few jobs need)
+
+        def note(all_but_one: bool = False) -> None:
+            before = self._tries(number)
+            tries = before._replace(all_but_one=all_but_one, mark=before.mark or mark, restored=restored.state(self._site.folder))
+            with self._site.writing("deliver"):
+                tries.write(self._folder, number)
+
+        def has_ended() -> bool:
+            tries = self._tries(number)
+            return tries.all_but_one and tries.restored == restored.state(self._site.folder)
+
+        return outgoing.Notes(note, partial(note, all_but_one=True), has_ended, lambda: self._tries(number).mark)
 
     def _tries(self, number: int) -> records.Tries:
         """The record of a job that is being delivered."""

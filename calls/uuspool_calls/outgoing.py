@@ -28,6 +28,7 @@ class Notes(NamedTuple):
     begins: Callable[[], None] = lambda: None  # comes before the first one that is queued
     ends: Callable[[], None] = lambda: None  # comes before the last of several, when all others wait
     has_ended: Callable[[], bool] = lambda: False  # whether that came, perhaps before a stop
+    mark: Callable[[], str] = lambda: ""  # under which some were queued before a stop, or nothing
 
 
 def queue(site: Site, what: Parcelled, content: int, notes: Notes = Notes()) -> None:
@@ -45,6 +46,7 @@ def queue(site: Site, what: Parcelled, content: int, notes: Notes = Notes()) -> 
         _ask(site, what.key, line, words, content)
         return
     waiting = {job.words for job in site.spool.waiting(what.system) if job.user == what.user}
+    what = what._replace(mark=notes.mark() or what.mark)
     has_begun = has_ended = notes.has_ended()
     for piece, data in _cut(content, length or SIZE, what):
         is_last = piece.at + piece.bytes == piece.size

@@ -24,6 +24,8 @@ class Tries(NamedTuple):
     why: str = ""
     came: str = ""
     all_but_one: bool = False  # whether all pieces but the last one were queued for a neighbour
+    mark: str = ""  # of these pieces, once the first one may be queued
+    restored: str = ""  # by which it is known whether the spool was put back since
 
     @staticmethod
     def read(folder: str, word: str, job: Job, now: int) -> "Tries":
@@ -31,7 +33,9 @@ class Tries(NamedTuple):
         record = files.read_record(f"{folder}/{job.number}")
         try:
             if _is_about(record, word, job):
-                return Tries(record["job"], word, int(record["failed"]), int(record["next"]), int(record["first"]), str(record["why"]), str(record.get("came", "")), record.get("all_but_one") is True)
+                tries = Tries(record["job"], word, int(record["failed"]), int(record["next"]), int(record["first"]), str(record["why"]), str(record.get("came", "")))
+                mark, is_noted = str(record.get("mark", _mark_of_before(record["job"]))), record.get("all_but_one") is True
+                return tries._replace(all_but_one=is_noted, mark=mark, restored=str(record.get("restored", "")))
         except (KeyError, TypeError, ValueError):
             pass
         return Tries(job.line, word, 0, 0, now)
@@ -65,6 +69,12 @@ def _is_about(record: Mapping[str, Any], word: str, job: Job) -> bool:
     then = Job.read(str(record["job"]))
     is_here = word != "" and record.get("word") == word
     return _lasting(then) == _lasting(job) and (is_here or (then.day, then.hour) == (job.day, job.hour))
+
+
+def _mark_of_before(line: str) -> str:
+    """The mark of pieces that an older version may have queued for a job."""
+    job = Job.read(line)
+    return f"{job.number}-{job.day}-{job.hour}"
 
 
 def _lasting(job: Job) -> Job:
