@@ -725,12 +725,30 @@ class HandedOn(Refused):
                 self.spool.parcels[self.number] = parcel(f"{self.number} mysite a!ann B 2026-11-28 10:00:00 {len(text)} exec {words}", text)
                 self.assertEqual(0, self.deliverer.deliver(self.number))
             asked = [it for it in self.spool.asked if it[0] == "exec"]
-            mark = f"{self.number}-2026-11-28-10:00:00"
+            whole = Piece.read((COMMAND, file, "0", "exec", "rmail", *addresses))
+            mark = whole.name("a!ann") if whole else ""
             self.assertEqual([("unc", "exec", "rmail", *hop)] * 3 if hop else [], [(it[it.index(COMMAND) - 1], *it[it.index(COMMAND) + 3 :]) for it in asked])
             self.assertEqual({mark} if hop else set(), {file_of(it).rpartition(".")[2] for it in asked})
             self.assertEqual(not hop, os.path.exists(f"{self.folder}/mail"))
             shutil.rmtree(f"{self.folder}/pieces")
 
+    def test_mail_that_came_in_pieces_goes_on_as_the_same_file(self) -> None:
+        """Whichever job brings it to its end, as after a restoration. Other mail of the same bytes is another file."""
+        self.put("etc/forward", "a unc\n")
+        data, files_of = b"From ann Sat Nov 28 12:00:00 2026 remote from a\n\n" + bytes(1_500_000), []
+        length = 1 << 20
+        for mark, order, user in ("m", (0, length), "ann"), ("m", (length, 0), "ann"), ("n", (0, length), "ann"), ("m", (0, length), "eve"):
+            self.spool.asked = []
+            file = f"{hashlib.sha256(data).hexdigest()}.{len(data)}.{length}.{mark}"
+            for at in order:
+                self.number += 1
+                part, words = data[at : at + length], f"{COMMAND} {file} {at} exec rmail unc!joe"
+                self.spool.parcels[self.number] = parcel(f"{self.number} mysite a!{user} B 2026-11-28 10:00:0{self.number} {len(part)} exec {words}", part)
+                self.assertEqual(0, self.deliverer.deliver(self.number))
+            [its] = {file_of(it) for it in self.spool.asked if it[0] == "exec"}
+            files_of.append(its)
+            shutil.rmtree(f"{self.folder}/pieces")
+        self.assertEqual(([files_of[0]] * 2, 3), (files_of[:2], len(set(files_of))))
 
     def test_an_address_that_is_an_option_at_the_next_hop(self) -> None:
         self.put("etc/forward", "a unc *\n")

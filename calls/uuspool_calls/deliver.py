@@ -296,7 +296,7 @@ class Deliverer:
         """Queues for a neighbour what a job brought or asked for, once."""
         number = int(job.name.split("!")[1])
         key = f"{self._own}!{number}!{why}"
-        what = outgoing.Parcelled(system, job.user, job.grade, key, outgoing.mark_of(job.name), (job.kind, *job.words))
+        what = outgoing.Parcelled(system, job.user, job.grade, key, job.mark or outgoing.mark_of(job.name), (job.kind, *job.words))
         try:
             outgoing.queue(self._site, what, job.content, self._notes(number, what.mark))
         except SpoolError as error:

@@ -154,7 +154,7 @@ class Delivery:
         piece = _piece(job)
         kind, *words = piece.words
         with self._held(job) as file:
-            whole = job._replace(kind=kind, words=tuple(words), working=file.working, first=file.about.job)
+            whole = job._replace(kind=kind, words=tuple(words), working=file.working, first=file.about.job, mark=piece.name(job.user))
             if file.about.came_with(job.name):
                 return Outcome(file.about.what, is_last=True, wishes=Wishes.read(words[2:] if kind == "send" else ()))
             if file.about.came:

@@ -58,10 +58,18 @@ def signed(job: Delivered, own: str, folder: str) -> Iterator[int]:
 
 
 def handed_on(job: Delivered, own: str, folder: str) -> contextlib.AbstractContextManager[int]:
-    """The same for mail that goes on to the next site, to which it comes from this one. (The program writes such a line before
-    what it hands on itself.)"""
+    """The same for mail that goes on to the next site, to which it comes from this one. It keeps the date with which it came, so it has the
+    same bytes if it is handed on again. (The program writes such a line before what it hands on itself.)"""
     lines, length = _lines_of(job.content)
-    return _rewritten([_line(job, plain_user(job.user), own), *lines], length, job, folder)
+    return _rewritten([_line(job, plain_user(job.user), own, _date_in(lines)), *lines], length, job, folder)
+
+
+def _date_in(lines: Sequence[str]) -> str:
+    """The first date in these lines, or nothing."""
+    import re  # (takes long to load)
+
+    dates = (re.match(r" ?((?:[A-Z][a-z]{2} ){2}[ 0-3]?[0-9] (?:[0-9]{2}:){2}[0-9]{2} [0-9]{4})(?: remote from |\Z)", _parted(it)[1]) for it in lines)
+    return next((it[1] for it in dates if it), "")
 
 
 @contextlib.contextmanager
@@ -125,6 +133,6 @@ def _is_signed(line: str, neighbour: str) -> bool:
     return user != "" and line.count("remote from ") == 1 and (blank + rest).endswith(f" remote from {neighbour}")
 
 
-def _line(job: Delivered, user: str, site: str) -> str:
-    date = time.strftime("%a %b %e %H:%M:%S %Y", time.gmtime(clock.seconds("UTC0", job.moment)))
+def _line(job: Delivered, user: str, site: str, date: str = "") -> str:
+    date = date or time.strftime("%a %b %e %H:%M:%S %Y", time.gmtime(clock.seconds("UTC0", job.moment)))
     return f"From {user} {date} remote from {site}"
