@@ -843,6 +843,22 @@ class HandedOn(Refused):
             self.assertEqual(0, self.deliverer.deliver(1))
         self.assertEqual(["0", "0", "0", "1000000"], queued)
 
+    def test_what_was_handed_on_before_a_restoration_is_handed_on_again(self) -> None:
+        """The spool could not note that it was, and then an older one was put back. What a command did isn't done again."""
+        self.put("etc/forward", "a unc\n")
+        for address, times in ("unc!joe", 2), ("joe", 1):
+            self.spool.parcels[1] = parcel(f"1 mysite a!ann B 2026-11-28 10:00:00 5 exec rmail {address}")
+            self.put("restored", "")
+            self.spool.asked, self.spool.fails = [], {"done": SpoolError(3, "uuspool: spool: store")}
+            self.assertRaises(Failure, self.deliverer.deliver, 1)
+            self.spool.fails = {}
+            for _ in range(2):
+                with mock.patch.object(self.deliverer, "_note_done"):
+                    self.deliverer.deliver(1)
+                self.put("restored", "2 1000 0f\n")
+            self.assertEqual(times if address == "unc!joe" else 0, sum(it[0] == "exec" for it in self.spool.asked))
+        self.assertEqual(1, len(self.bytes_of("ran").splitlines()))
+
     def test_a_note_of_an_older_version(self) -> None:
         """It has the mark of the job that brought the last piece, under which the others were queued."""
         self.put("etc/forward", "a unc\n")

@@ -228,8 +228,8 @@ class Deliverer:
     def _try(self, parcel: Parcel) -> int:
         now = clock.now()
         tries = records.Tries.read(self._folder, self._site.word(), parcel.job, now)
-        if tries.came:
-            return self._finish(parcel.job, Outcome(tries.came), tries, now)
+        if came := self._came(tries):
+            return self._finish(parcel.job, Outcome(came, is_onward=tries.is_onward), tries, now)
         try:
             with files.memory_file(parcel.data) as content:
                 outcome = self._hand_over(self._delivered(tries.of(parcel.job), content), parcel.job)
@@ -254,7 +254,7 @@ class Deliverer:
         """Delivers it."""
         if job.kind == "request" or (job.kind == "exec" and job.words[0] == REQUEST):
             self._send_file(delivered, job.words[job.kind == "exec" :])
-            return Outcome(job.what)
+            return Outcome(job.what, is_onward=True)
         return self._delivery.deliver(delivered)
 
     def _send_file(self, job: Delivered, words: Sequence[str]) -> None:
@@ -311,19 +311,30 @@ class Deliverer:
         """What is noted of the pieces in which a job is queued for a neighbour. They may have the moment of their job in their mark, and in
         their bytes. So it is noted, because after a stop the same pieces have to be queued, and none if all of them have gone. If the
         spool was put back since, it doesn't know all that a note says."""
-        from . import restored  # (which few jobs need)
 
         def note(all_but_one: bool = False) -> None:
             before = self._tries(number)
-            tries = before._replace(all_but_one=all_but_one, mark=before.mark or mark, restored=restored.state(self._site.folder))
+            tries = before._replace(all_but_one=all_but_one, mark=before.mark or mark, restored=self._restored())
             with self._site.writing("deliver"):
                 tries.write(self._folder, number)
 
         def has_ended() -> bool:
             tries = self._tries(number)
-            return tries.all_but_one and tries.restored == restored.state(self._site.folder)
+            return tries.all_but_one and tries.restored == self._restored()
 
         return outgoing.Notes(note, partial(note, all_but_one=True), has_ended, lambda: self._tries(number).mark)
+
+    def _restored(self) -> str:
+        """What differs once the spool is put back."""
+        from . import restored  # (which few jobs need)
+
+        return restored.state(self._site.folder)
+
+    def _came(self, tries: records.Tries) -> str:
+        """What a record says that was delivered, or nothing. If that was queued for another system, a spool that was put back since may not
+        have it, and otherwise knows its key."""
+        is_lost = tries.came and tries.is_onward and tries.restored != self._restored()
+        return "" if is_lost else tries.came
 
     def _tries(self, number: int) -> records.Tries:
         """The record of a job that is being delivered."""
@@ -352,7 +363,7 @@ class Deliverer:
     def has_come(self, parcel: Parcel) -> bool:
         """Whether a job, or the file of which it is a piece, was delivered, and the spool couldn't note that yet."""
         tries = records.Tries.read(self._folder, self._site.word(), parcel.job, clock.now())
-        return tries.came != "" or self._delivery.has_come(self._delivered(parcel.job, -1))
+        return self._came(tries) != "" or self._delivery.has_come(self._delivered(parcel.job, -1))
 
     def _refuse(self, parcel: Parcel, why: str, now: int) -> int:
         """Refuses a job, or tries it later if its command still works."""
@@ -411,7 +422,7 @@ class Deliverer:
         """The command of a job doesn't run again. (A file in pieces has a note of its own.)"""
         if outcome.how == "delivered" and not outcome.is_last:
             with self._site.writing("deliver"):
-                tries._replace(came=outcome.what).write(self._folder, job.number)
+                tries._replace(came=outcome.what, is_onward=outcome.is_onward, restored=self._restored()).write(self._folder, job.number)
 
     def _tell(self, job: Job, outcome: Outcome) -> None:
         """The letters that the sender of a file asked for. (The second may come twice after a stop.)"""

@@ -23,6 +23,7 @@ class Tries(NamedTuple):
     first: int
     why: str = ""
     came: str = ""
+    is_onward: bool = False  # whether that was queued for another system
     all_but_one: bool = False  # whether all pieces but the last one were queued for a neighbour
     mark: str = ""  # of these pieces, once the first one may be queued
     restored: str = ""  # by which it is known whether the spool was put back since
@@ -34,8 +35,8 @@ class Tries(NamedTuple):
         try:
             if _is_about(record, word, job):
                 tries = Tries(record["job"], word, int(record["failed"]), int(record["next"]), int(record["first"]), str(record["why"]), str(record.get("came", "")))
-                mark, is_noted = str(record.get("mark", _mark_of_before(record["job"]))), record.get("all_but_one") is True
-                return tries._replace(all_but_one=is_noted, mark=mark, restored=str(record.get("restored", "")))
+                tries = tries._replace(is_onward=record.get("is_onward") is True, all_but_one=record.get("all_but_one") is True)
+                return tries._replace(mark=str(record.get("mark", _mark_of_before(record["job"]))), restored=str(record.get("restored", "")))
         except (KeyError, TypeError, ValueError):
             pass
         return Tries(job.line, word, 0, 0, now)
