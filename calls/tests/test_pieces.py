@@ -728,12 +728,30 @@ class HandedOn(Refused):
                 self.spool.parcels[self.number] = parcel(f"{self.number} mysite a!ann B 2026-11-28 10:00:00 {len(text)} exec {words}", text)
                 self.assertEqual(0, self.deliverer.deliver(self.number))
             asked = [it for it in self.spool.asked if it[0] == "exec"]
-            mark = f"{self.number}-2026-11-28-10:00:00"
+            whole = Piece.read((COMMAND, file, "0", "exec", "rmail", *addresses))
+            mark = whole.name("a!ann") if whole else ""
             self.assertEqual([("unc", "exec", "rmail", *hop)] * 3 if hop else [], [(it[it.index(COMMAND) - 1], *it[it.index(COMMAND) + 3 :]) for it in asked])
             self.assertEqual({mark} if hop else set(), {file_of(it).rpartition(".")[2] for it in asked})
             self.assertEqual(not hop, os.path.exists(f"{self.folder}/mail"))
             shutil.rmtree(f"{self.folder}/pieces")
 
+    def test_mail_that_came_in_pieces_goes_on_as_the_same_file(self) -> None:
+        """Whichever job brings it to its end, as after a restoration. Other mail of the same bytes is another file."""
+        self.put("etc/forward", "a unc\n")
+        data, files_of = b"From ann Sat Nov 28 12:00:00 2026 remote from a\n\n" + bytes(1_500_000), []
+        length = 1 << 20
+        for mark, order, user in ("m", (0, length), "ann"), ("m", (length, 0), "ann"), ("n", (0, length), "ann"), ("m", (0, length), "eve"):
+            self.spool.asked = []
+            file = f"{hashlib.sha256(data).hexdigest()}.{len(data)}.{length}.{mark}"
+            for at in order:
+                self.number += 1
+                part, words = data[at : at + length], f"{COMMAND} {file} {at} exec rmail unc!joe"
+                self.spool.parcels[self.number] = parcel(f"{self.number} mysite a!{user} B 2026-11-28 10:00:0{self.number} {len(part)} exec {words}", part)
+                self.assertEqual(0, self.deliverer.deliver(self.number))
+            [its] = {file_of(it) for it in self.spool.asked if it[0] == "exec"}
+            files_of.append(its)
+            shutil.rmtree(f"{self.folder}/pieces")
+        self.assertEqual(([files_of[0]] * 2, 3), (files_of[:2], len(set(files_of))))
 
     def test_mail_for_a_domain_behind_the_next_hop(self) -> None:
         """No mailer here gets such an address, because it would carry the mail to the domain."""
@@ -815,6 +833,61 @@ class HandedOn(Refused):
             self.assertEqual(0, self.deliverer.deliver(1))
         record = records.Tries.read(f"{self.folder}/deliver", "w1", self.spool.parcels[1].job, 0)
         self.assertEqual((True, 1), (record.all_but_one, record.failed))
+
+
+    def test_a_note_of_before_a_restoration_counts_for_nothing(self) -> None:
+        """The spool that was put back may know none of the pieces that were queued before. A note that was written since then counts."""
+        self.put("etc/forward", "a unc\n")
+        text = b"Subject: x\n\n" + bytes((1 << 20) - 20)
+        self.spool.parcels[1] = parcel(f"1 mysite a!ann B 2026-11-28 10:00:00 {len(text)} exec rmail unc!joe", text)
+        queued, ask, is_stopped = list[str](), self.spool.ask, True
+
+        def stop_before_last(*words: str, given: bytes | int = b"") -> str:
+            is_last = "--once=mysite!1!onward" in words
+            if is_last and is_stopped:
+                raise Stopped
+            queued.append(words[words.index(COMMAND) + 2] if COMMAND in words else "")
+            return ask(*words, given=given)
+
+        with mock.patch.object(self.spool, "ask", stop_before_last):
+            for times in "", "2 1000 0f\n", "2 1000 0f\n", "2 1000 0f\n2 2000 0e\n":
+                self.put("restored", times)
+                self.assertRaises(Stopped, self.deliverer.deliver, 1)
+            self.assertEqual(["0", "0", "0"], queued)
+            is_stopped = False
+            self.assertEqual(0, self.deliverer.deliver(1))
+        self.assertEqual(["0", "0", "0", "1000000"], queued)
+
+    def test_what_was_handed_on_before_a_restoration_is_handed_on_again(self) -> None:
+        """The spool could not note that it was, and then an older one was put back. What a command did isn't done again."""
+        self.put("etc/forward", "a unc\n")
+        for address, times in ("unc!joe", 2), ("joe", 1):
+            self.spool.parcels[1] = parcel(f"1 mysite a!ann B 2026-11-28 10:00:00 5 exec rmail {address}")
+            self.put("restored", "")
+            self.spool.asked, self.spool.fails = [], {"done": SpoolError(3, "uuspool: spool: store")}
+            self.assertRaises(Failure, self.deliverer.deliver, 1)
+            self.spool.fails = {}
+            for _ in range(2):
+                with mock.patch.object(self.deliverer, "_note_done"):
+                    self.deliverer.deliver(1)
+                self.put("restored", "2 1000 0f\n")
+            self.assertEqual(times if address == "unc!joe" else 0, sum(it[0] == "exec" for it in self.spool.asked))
+        self.assertEqual(1, len(self.bytes_of("ran").splitlines()))
+
+    def test_a_note_of_an_older_version(self) -> None:
+        """It has the mark of the job that brought the last piece, under which the others were queued."""
+        self.put("etc/forward", "a unc\n")
+        data = b"Subject: x\n\n" + bytes(1_500_000)
+        length, file = 1 << 20, f"{hashlib.sha256(data).hexdigest()}.{len(data)}.{1 << 20}.m"
+        for number, at in (1, 0), (2, length):
+            part = data[at : at + length]
+            self.spool.parcels[number] = parcel(f"{number} mysite a!ann B 2026-11-28 10:00:00 {len(part)} exec {COMMAND} {file} {at} exec rmail unc!joe", part)
+        note = records.Tries(self.spool.parcels[2].job.line, "w1", 0, 0, 1, all_but_one=True)._asdict()
+        files.write_record(f"{self.folder}/deliver/2", {name: it for name, it in note.items() if name not in ("mark", "restored")})
+        for number in 1, 2:
+            self.assertEqual(0, self.deliverer.deliver(number))
+        asked = [it for it in self.spool.asked if it[0] == "exec"]
+        self.assertEqual([("2-2026-11-28-10:00:00", "1000000")], [(file_of(it).rpartition(".")[2], it[it.index(COMMAND) + 2]) for it in asked])
 
 
 class Older(Arrivals):

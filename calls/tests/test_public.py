@@ -475,6 +475,17 @@ class Envelopes(Folder):
         for written, plain in (b"hello\n", b"hello\n"), (b"", b""), (b">From x\n", line + b">From x \n"), (b"From uucp x remote from mysite\nx", line + b"x"):
             self.assertEqual(plain, self.plain(written, "uucp"))
 
+    def test_mail_that_is_handed_on_keeps_its_date(self) -> None:
+        """So it has the same bytes if it is handed on again. What is no date is none."""
+        date = b"Sat Nov 28 12:00:00 2026"
+        for text, wanted in (
+            (b"From a " + date + b" remote from duke\n", date), (b"From a  " + date + b"\n", date), (b"From a x\n>From a Tue Dec  1 08:00:00 2026 remote from unc\n", b"Tue Dec  1 08:00:00 2026"),
+            (b"From a " + date + b" <ann@mysite> remote from duke\n", b""), (b"From a " + date + b"x remote from duke\n", b""), (b"From a\n", b""), (b"", b""),
+        ):  # fmt: skip
+            with memory_file(text) as content, envelope.handed_on(self.mail(content), "mysite", self.folder) as given:
+                first = os.pread(given, 1000, 0).partition(b"\n")[0]
+            self.assertEqual(b"From duke!ann " + (wanted or b"Sun Nov  8 09:30:00 2026") + b" remote from mysite", first)
+
     def test_large_mail_has_no_name(self) -> None:
         with memory_file(bytes(1_048_577)) as content, envelope.signed(self.mail(content), "mysite", self.folder) as given:
             self.assertEqual([], os.listdir(self.folder))

@@ -1,6 +1,8 @@
 """What the log says of jobs, where a copy is put back, and what is done with a job that a neighbour had before."""
+import collections
 import fcntl
 import gzip
+import json
 import os
 import pwd
 import random
@@ -14,8 +16,10 @@ from uuspool_calls.copies import Target
 from uuspool_calls.errors import Failure, SpoolError
 from uuspool_calls.exchange import Neighbour
 from uuspool_calls.jobs import Job
+from uuspool_calls.pieces import COMMAND, Piece
 from uuspool_calls.settings import Settings
 from uuspool_calls.spool import Refused, Settled
+from uuspool_calls.values import NamedTuple
 
 from .standins import LINE, Folder, Quiet, StandIn, parcel, site
 
@@ -134,16 +138,46 @@ class Log(Folder):
             said = self.said()
             self.assertEqual([wanted, None, None], [said.lost.get(number) for number in (1, 2, 3)])
 
+    def test_pieces_between_which_a_stop_came(self) -> None:
+        """1 was handed on in three pieces, 11, 12 and 13. It is done if all of them are, or wait in the copy, or if it was killed."""
+        first = about("copied", "0b", "w")
+        pieces = [line(13, 11 + at // 3, f"exec -gN -- duke uuspool-piece {'0a' * 32}.9.3.1-{DAY}-12:00:00 {at} exec rmail x").replace("ann", "unc!joe") for at in (0, 3, 6)]
+        again, went, done = (f"{it[:20]}duke unc!joe 2{it[33:]}" for it in pieces), [line(14, number, "settle duke") for number in (11, 12, 13)], line(15, 1, "done mysite")
+        restored, both = about("restored", "0a", "w"), "".join(pieces[:2])
+        for text, jobs, wanted in (
+            (HERE + both + went[0] + went[1], (1,), None),
+            (HERE + both + went[0] + went[1] + pieces[2] + done, (1,), 13),
+            (HERE + both + went[0] + went[1] + pieces[2] + went[2], (1,), 0),
+            (HERE + both + went[0] + line(14, 12, "kill") + restored + "".join(again) + went[2].replace(" 13 ", " 23 "), (1,), None),
+            (HERE + both + went[0] + line(14, 1, "kill"), (1,), 0),
+            (first + both + HERE + pieces[2] + done + went[2], (1, 11, 12), 0),
+            (first + both + HERE + pieces[2] + done, (1, 11, 12), 13),
+            (first + both + went[0] + HERE + pieces[2] + went[1] + went[2], (1, 12), 0),
+            (first + both + pieces[2] + HERE, (1, 11, 12, 13), 0),
+            (HERE + both + pieces[2].replace("12:00:00 6", "12:00:01 6") + done + "".join(went), (1,), 1),
+        ):
+            self.put("log", text)
+            said = self.said(jobs=jobs)
+            lost = said.lost[1].number if 1 in said.lost else 0 if 1 in said.gone else None
+            self.assertEqual(wanted, lost, text)
+
+    def test_a_file_that_came_in_pieces_has_a_mark_of_its_own(self) -> None:
+        pieces = "".join(line(13, 11 + at, f"exec -gN -- phs uuspool-piece {'0a' * 32}.2.1.f{at // 2} {at % 2} exec rmail x").replace("ann", "unc!joe") for at in range(3))
+        for ends, done in (line(14, 11, "settle"), set()), (line(14, 11, "settle") + line(14, 12, "settle"), {1}):
+            self.put("log", HERE + line(12, 1, "done mysite") + pieces + line(14, 2, "done mysite") + ends)
+            said = logged.read(f"{self.folder}/log", "", "w", "0a", [1, 2, 3], marks={1: "f0", 2: "f0", 3: "f2"})
+            self.assertEqual(({1}, done), (said.handed_on, said.gone.keys() - said.lost.keys()))
+
     def test_a_piece_that_is_kept_says_nothing_of_its_file(self) -> None:
         """1 and 2 brought pieces of a file. 1 had it handed on, and after a restoration 2 did."""
         first = line(13, 11, "exec -gN --once=mysite!1!onward -- phs rmail joe") + line(14, 1, "done mysite") + line(14, 2, "done mysite")
         second = about("restored", "0a", "w") + line(15, 1, "done mysite") + line(16, 12, "exec -gN --once=mysite!2!onward -- phs rmail joe") + line(16, 2, "done mysite")
         for text, handed_on, done in (first, {1}, set()), (first + second, {1, 2}, set()), (first + second + line(17, 12, "settle phs"), {1, 2}, {2}), (first + line(14, 11, "settle phs") + second, {1, 2}, {1}):
             self.put("log", HERE + text)
-            said = logged.read(f"{self.folder}/log", "", "w", "0a", [1, 2, 3], pieces=[1, 2])
+            said = logged.read(f"{self.folder}/log", "", "w", "0a", [1, 2, 3], marks={1: "f0", 2: "f0"})
             self.assertEqual((handed_on, done), (said.handed_on, handed_on & said.gone.keys() - said.lost.keys()))
         self.put("log", HERE + line(13, 1, "kill") + line(14, 3, "done mysite"))
-        said = logged.read(f"{self.folder}/log", "", "w", "0a", [1, 2, 3], pieces=[1, 2])
+        said = logged.read(f"{self.folder}/log", "", "w", "0a", [1, 2, 3], marks={1: "f0", 2: "f0"})
         self.assertEqual(({1, 3}, {}), (said.gone.keys(), said.lost))
 
     def test_lines_about_other_spools_and_of_before(self) -> None:
@@ -248,146 +282,312 @@ class Log(Folder):
         self.assertEqual(({}, 1), (said.gone, len(said.faults)))
 
 
+PLACES = range(3)  # of the pieces of a job that is handed on
+
+
+class Waiting(NamedTuple):
+    """A piece that waits: of which job, of which thing, its place, and for which system."""
+
+    of: int
+    thing: int
+    at: int
+    system: str = "phs"
+
+    @property
+    def whole(self) -> "Waiting":
+        return self._replace(at=0)
+
+    def line(self, key: str) -> str:
+        once = f"--once=mysite!{key} " if key else ""
+        return f"exec -gN {once}-- {self.system} uuspool-piece 0f.{len(PLACES)}.1.{self.of}-{DAY}-10:00:00 {self.at} exec rmail joe"
+
+
+class State(NamedTuple):
+    """What a copy has: the thing of each job that waits, and what else is in the spool and beside it."""
+
+    jobs: dict[int, int]
+    half: dict[int, int]  # jobs that were queued anew, and those for which they stand, which wait, too
+    pieces: dict[int, Waiting]
+    keys: set[int]  # of jobs of which the last piece was queued
+    notes: dict[int, int]  # of which all but the last one were, and how often a copy had been put back then
+    begun: set[int]  # of which one was queued
+
+
 class History:
-    """Jobs that are queued, moved, handed on, done and killed, and copies that are made and put back, in any order. Each job has a
-    thing, which it keeps as it moves. The log says what the commands say there."""
+    """Jobs that are queued, moved, handed on, at once or in pieces between which stops come, done and killed, and copies that are made and put
+    back, in any order. Each job has a thing, which it keeps as it moves. The log says what the commands say there."""
 
     def __init__(self, seed: int, path: str) -> None:
         self.random, self.path = random.Random(seed), path
-        self.jobs: dict[int, int] = {}  # the thing of each job that waits
-        self.half: dict[int, int] = {}  # jobs that were queued anew, and those for which they stand, which wait, too
+        self.now = State({}, {}, {}, set(), {}, set())
         self.ended: set[int] = set()  # things that came to a neighbour, or were killed
-        self.copies: list[tuple[str, dict[int, int], dict[int, int]]] = []
-        self.next, self.things = 1, 0
-        self.log: list[str] = []
+        self.there: collections.defaultdict[Waiting, set[int]] = collections.defaultdict(set)  # which places came, by their first one
+        self.copies: list[tuple[str, State]] = []
+        self.next, self.things, self.times = 1, 0, 0
+        self.log = [about("copied", "0b", "w")]  # (What came before the first copy says nothing.)
 
     def step(self) -> None:
-        does = self.random.choice(["queue", "queue", "move", "move", "half_move", "finish", "hand_on", "end", "end", "copy", "put_back"])
-        if does in ("queue", "copy") or {"put_back": self.copies, "finish": self.half}.get(does, self.whole()):
+        does = self.random.choice(["queue", "queue", "move", "move", "half_move", "finish", "hand_on", "hand_on_in_pieces", "hand_on_in_pieces", "go", "go", "move_pieces", "end", "end", "copy", "put_back"])
+        needed = {"put_back": self.copies, "finish": self.now.half, "go": self.now.pieces, "move_pieces": self.movable(), "hand_on_in_pieces": self.unfinished(), "end": self.unfinished()}
+        if does in ("queue", "copy") or needed.get(does, self.whole()):
             getattr(self, does)()
 
-    def whole(self) -> list[int]:
+    def unfinished(self) -> list[int]:
         """The jobs that wait and aren't half moved."""
-        return sorted(self.jobs.keys() - self.half.keys() - set(self.half.values()))
+        return sorted(self.now.jobs.keys() - self.now.half.keys() - set(self.now.half.values()))
+
+    def whole(self) -> list[int]:
+        """Those of them that aren't being handed on."""
+        return sorted(set(self.unfinished()) - self.now.begun)
+
+    def movable(self) -> list[int]:
+        """The jobs of which all pieces wait, for the system for which they were queued."""
+        counts = collections.Counter(it.of for it in self.now.pieces.values() if it.system == "phs")
+        return sorted(of for of, count in counts.items() if count == len(PLACES) and of not in self.now.jobs)
 
     def half_move(self) -> None:
         number = self.random.choice(self.whole())
-        self.half[self.next] = number
-        self.queue(f"send -gN --once=mysite!{number}!again -- duke a b", self.jobs[number])
+        self.now.half[self.next] = number
+        self.queue(f"send -gN --once=mysite!{number}!again -- duke a b", self.now.jobs[number])
 
     def finish(self) -> None:
-        number = self.half.pop(self.random.choice(sorted(self.half)))
-        self.jobs.pop(number)
+        number = self.now.half.pop(self.random.choice(sorted(self.now.half)))
+        self.now.jobs.pop(number)
         self.log.append(line(1, number, "kill"))
 
     def queue(self, line: str = "send -gN -- duke a b", thing: int | None = None) -> None:
         self.things += thing is None
-        self.jobs[self.next] = self.things if thing is None else thing
+        self.now.jobs[self.next] = self.things if thing is None else thing
         self.log.append(globals()["line"](1, self.next, line))
+        self.next += 1
+
+    def queue_piece(self, piece: Waiting, key: str = "") -> None:
+        self.now.pieces[self.next] = piece
+        self.log.append(line(1, self.next, piece.line(key)).replace(" ann ", " duke!ann "))
         self.next += 1
 
     def move(self, how: str = "again", end: str = "kill") -> None:
         number = self.random.choice(self.whole())
-        self.queue(f"send -gN --once=mysite!{number}!{how} -- duke a b", self.jobs.pop(number))
+        self.queue(f"send -gN --once=mysite!{number}!{how} -- duke a b", self.now.jobs.pop(number))
         self.log.append(line(1, number, end))
 
     def hand_on(self) -> None:
         self.move("onward", "done mysite")
 
+    def hand_on_in_pieces(self) -> None:
+        """As `outgoing.queue` does, until a stop."""
+        number = self.random.choice(self.unfinished())
+        waiting = {it.at for it in self.now.pieces.values() if (it.of, it.system) == (number, "phs")}
+        has_ended, is_last = self.now.notes.get(number) == self.times, False
+        for at in PLACES:
+            if at in waiting or has_ended and at != PLACES[-1]:
+                continue
+            is_last = at == PLACES[-1]
+            if is_last:
+                self.now.notes[number] = self.times
+            if not self.random.randrange(4):
+                return
+            if not (is_last and number in self.now.keys):
+                self.queue_piece(Waiting(number, self.now.jobs[number], at), f"{number}!onward" * is_last)
+                self.now.begun.add(number)
+            self.now.keys.update({number} if is_last else ())
+        if self.random.randrange(4):
+            self.now.jobs.pop(number)
+            self.now.notes.pop(number, None)
+            self.log.append(line(1, number, "done mysite"))
+
+    def go(self) -> None:
+        """A piece comes to a neighbour, or all of a file together, if that has Taylor UUCP alone."""
+        its = self.now.pieces[self.random.choice(sorted(self.now.pieces))]
+        for number in [number for number, it in self.now.pieces.items() if it == its or it.whole == its.whole and its.system == "tay"]:
+            self.there[its.whole].add(self.now.pieces.pop(number).at)
+            self.log.append(line(1, number, f"settle {its.system}"))
+        self.ended |= {its.thing} if len(self.there[its.whole]) == len(PLACES) else set()
+
+    def move_pieces(self) -> None:
+        of = self.random.choice(self.movable())
+        for number in [number for number, it in self.now.pieces.items() if it.of == of]:
+            self.queue_piece(self.now.pieces.pop(number)._replace(system="tay"), f"{number}!again")
+            self.log.append(line(1, number, "kill"))
+
     def end(self) -> None:
-        number = self.random.choice(self.whole())
-        self.ended.add(self.jobs.pop(number))
-        self.log.append(line(1, number, self.random.choice(["settle duke", "kill", "done duke"])))
+        number = self.random.choice(self.unfinished())
+        self.ended.add(self.now.jobs.pop(number))
+        self.log.append(line(1, number, self.random.choice(["settle duke", "kill", "done duke"] if number not in self.now.begun else ["kill"])))
 
     def copy(self) -> None:
-        self.copies.append((f"{len(self.copies):04}", dict(self.jobs), dict(self.half)))
+        self.copies.append((f"{len(self.copies):04}", State(*(its.copy() for its in self.now))))
         self.log.append(about("copied", self.copies[-1][0], "w"))
 
     def put_back(self) -> None:
         """Does what `Restoration` does with what the log says."""
-        mark, jobs, half = self.random.choice(self.copies)
+        mark, copy = self.random.choice(self.copies)
         with open(self.path, "w", encoding="ascii") as file:
             file.writelines(self.log)
-        said = logged.read(self.path, "", "w", mark, jobs)
-        self.jobs = {number: thing for number, thing in jobs.items() if number not in said.gone or number in said.lost and not said.lost[number].line}
-        for number in said.gone.keys() & said.lost.keys() - self.jobs.keys():
-            self.queue(" ".join(said.lost[number].line[1:]), jobs[number])
-        self.half = {number: of for number, of in half.items() if number in self.jobs and of in self.jobs}
+        said = logged.read(self.path, "", "w", mark, copy.jobs.keys() | copy.pieces.keys())
+        jobs, pieces = ({number: it for number, it in its.items() if number not in said.gone or number in said.lost and not said.lost[number].line} for its in (copy.jobs, copy.pieces))
+        half = {number: of for number, of in copy.half.items() if number in jobs and of in jobs}
+        self.now = State(jobs, half, pieces, copy.keys.copy(), self.random.choice((self.now.notes, copy.notes)).copy(), copy.begun.copy())
+        for number in said.gone.keys() & said.lost.keys() - jobs.keys() - pieces.keys():
+            if number in copy.jobs:
+                self.queue(" ".join(said.lost[number].line[1:]), copy.jobs[number])
+            else:
+                self.queue_piece(copy.pieces[number]._replace(system="tay"), f"{number}!again")
+        self.times += 1
         self.log.append(about("restored", mark, "w"))
-        self.expect(sorted(set(jobs.values()) - self.ended))
+        for thing in {*copy.jobs.values(), *(it.thing for it in copy.pieces.values())}:
+            self.expect(thing)
 
-    def expect(self, things: list[int]) -> None:
-        """Just these wait, each once."""
-        if sorted(self.jobs[number] for number in self.jobs.keys() - self.half.keys()) != things:
-            raise AssertionError(f"{things} should wait, and not {self.jobs}, after\n{''.join(self.log)}")
+    def expect(self, thing: int) -> None:
+        """It waits once, or its pieces do, but for those that came."""
+        waiting = sum(self.now.jobs[number] == thing for number in self.now.jobs.keys() - self.now.half.keys())
+        coming: collections.defaultdict[Waiting, set[int]] = collections.defaultdict(set)
+        for it in [*self.now.pieces.values(), *(whole._replace(at=at) for whole, its in self.there.items() for at in its)]:
+            coming[it.whole] |= {it.at} if it.thing == thing else set()
+        wholes = sum(len(its) == len(PLACES) for its in coming.values())
+        if waiting + (wholes > 0) != 1 if thing not in self.ended else waiting:
+            raise AssertionError(f"{thing} waits {waiting} times, and as {dict(coming)}, after\n{''.join(self.log)}{self.now}")
+
+    def complete(self) -> None:
+        """All that waits comes."""
+        while self.now.half:
+            self.finish()
+        things = {*self.now.jobs.values(), *(it.thing for it in self.now.pieces.values())} - self.ended
+        while self.now.jobs or self.now.pieces:
+            does = self.random.choice([self.go] * bool(self.now.pieces) + [self.hand_on_in_pieces] * bool(self.now.jobs))
+            does()
+        if things - self.ended:
+            raise AssertionError(f"{things - self.ended} never came, after\n{''.join(self.log)}")
+
+
+class FileState(NamedTuple):
+    """What a copy has of a file that came in pieces."""
+
+    arrived: set[int]  # the pieces that the spool knows, or knew
+    waiting: dict[int, int]  # those that wait here, by their jobs
+    kept: set[int]  # the pieces that are kept
+    begun: list[int]  # with which job its delivery began, and how often a copy had been put back when all but the last piece were queued
+    came: list[str]  # by which mark it was handed on, once that is noted
+    onward: dict[int, tuple[str, int]]  # the pieces that wait for the next site, each with its mark
+    keys: set[int]  # of jobs of which the last piece was queued
+
+    def copied(self) -> "FileState":
+        return FileState(*(its.copy() for its in self))
 
 
 class FileHistory:
-    """A file that came in two pieces, which are kept, handed on in two, done and killed; copies are made and put back, in any order. The log and
-    the folder of the file say what the commands say there."""
+    """A file that came in two pieces, which are kept, handed on in two, with stops between them, done and killed; copies are made and put back, in
+    any order. A piece that came after the copy comes again. The log and the folder of the file say what the commands say there. Before
+    the marks were those of files, they had the number of a job."""
+
+    words = {at: f"{COMMAND} {'0' * 64}.2.1.m {at} exec rmail phs!joe" for at in (0, 1)}
 
     def __init__(self, seed: int, folder: str) -> None:
-        self.random, self.folder = random.Random(seed), folder
-        self.waiting, self.next = {1: 0, 2: 1}, 3  # the pieces that wait here, by their jobs, and the next number
-        self.kept: set[int] = set()  # the pieces that are kept
-        self.came = ""  # by which mark it was handed on, if that is noted
-        self.onward: dict[int, tuple[str, int]] = {}  # the pieces that wait for the next site, each with its mark
-        self.there: set[tuple[str, int]] = set()  # those that it has
-        self.copies: list[tuple[str, dict[int, int], set[int], str, dict[int, tuple[str, int]]]] = []
-        self.log: list[str] = []
+        self.random, self.folder, self.is_of_before = random.Random(seed), folder, seed % 4 == 0
+        self.now = FileState({0}, {1: 0}, set(), [], [], {}, set())
+        self.next, self.times = 2, 0
+        self.there: set[tuple[str, int]] = set()  # the pieces that the next site has
+        self.copies: list[tuple[str, FileState]] = []
+        self.log = [about("copied", "0b", "w")]  # (What came before the first copy says nothing.)
+        piece = Piece.read(self.words[0].split())
+        assert piece
+        self.name = piece.name("duke!ann")
+        if self.is_of_before:
+            self.come()
 
     def step(self) -> None:
-        does = self.random.choice(["deliver", "deliver", "go", "copy", "put_back"])
-        if {"deliver": self.waiting, "go": self.onward, "put_back": self.copies}.get(does, [1]):
+        does = self.random.choice(["come", "deliver", "deliver", "go", "copy", "put_back"])
+        if {"come": self.missing(), "deliver": self.now.waiting, "go": self.now.onward, "put_back": self.copies}.get(does, [1]):
             getattr(self, does)()
 
+    def missing(self) -> list[int]:
+        """The pieces that the spool never had."""
+        return sorted({0, 1} - self.now.arrived)
+
+    def come(self) -> None:
+        for at in self.missing():
+            self.now.waiting[self.next] = at
+            self.now.arrived.add(at)
+            self.next += 1
+
     def deliver(self) -> None:
-        number = self.random.choice(sorted(self.waiting))
-        is_last = not self.came and self.kept | {self.waiting[number]} == {0, 1}
-        self.kept.add(self.waiting.pop(number))
-        if is_last:
-            self.came = f"{number}-2026-11-28-10:00:00"
-            for at in 0, 1:
-                once = at * f"--once=mysite!{number}!onward "
-                self.log.append(line(1, self.next, f"exec -gN {once}-- phs uuspool-piece 0f.2.1.{self.came} {at} exec rmail joe").replace(" ann ", " duke!ann "))
-                self.onward[self.next] = (self.came, at)
-                self.next += 1
+        number = self.random.choice(sorted(self.now.waiting))
+        self.now.kept.add(self.now.waiting[number])
+        is_last = not self.now.came and self.now.kept == {0, 1}
+        if is_last and not self.hand_on(number):
+            return
+        self.now.waiting.pop(number)
         self.log.append(line(1, number, "done mysite"))
         self.log.append(line(1, number, "exec rmail phs!joe" if is_last else "piece 1 of 2", "delivered" if is_last else "kept"))
 
+    def hand_on(self, number: int) -> bool:
+        """Whether no stop comes meanwhile."""
+        if not self.now.begun or self.now.begun[0] not in self.now.waiting:
+            self.now.begun[:] = [number, -1]
+        begun, noted = self.now.begun
+        mark = f"{begun}-{DAY}-10:00:00" if self.is_of_before else self.name
+        for at in 0, 1:
+            if (mark, at) in self.now.onward.values() or (noted == self.times and not at):
+                continue
+            self.now.begun[1] = self.times if at else -1
+            if not self.random.randrange(4):
+                return False
+            if not (at and begun in self.now.keys):
+                once = at * f"--once=mysite!{begun}!onward "
+                self.log.append(line(1, self.next, f"exec -gN {once}-- phs {COMMAND} 0f.2.1.{mark} {at} exec rmail joe").replace(" ann ", " duke!ann "))
+                self.now.onward[self.next] = (mark, at)
+                self.next += 1
+            self.now.keys.update([begun] * at)
+        self.now.came[:] = [mark]
+        return self.random.randrange(4) > 0
+
     def go(self) -> None:
-        for number in sorted(self.onward):
-            self.there.add(self.onward.pop(number))
+        for number in sorted(self.now.onward)[: self.random.randrange(1, 3)]:
+            self.there.add(self.now.onward.pop(number))
             self.log.append(line(1, number, "settle phs"))
 
     def copy(self) -> None:
-        self.copies.append((f"{len(self.copies):04}", dict(self.waiting), set(self.kept), self.came, dict(self.onward)))
+        self.copies.append((f"{len(self.copies):04}", self.now.copied()))
         self.log.append(about("copied", self.copies[-1][0], "w"))
 
     def put_back(self) -> None:
         del self.copies[self.random.randrange(len(self.copies)) + 1 :]  # (Those of a past that is given up aren't put back.)
-        mark, waiting, kept, came, onward = self.copies[-1]
+        mark, copy = self.copies[-1][0], self.copies[-1][1].copied()
         with open(f"{self.folder}/log", "w", encoding="ascii") as file:
             file.writelines(self.log)
-        its = restore.Restoration(mock.Mock(), mock.Mock(), "", mock.Mock(), mock.Mock(word="w", mark=mark))
+        os.makedirs(f"{self.folder}/pieces/duke/{self.name}", exist_ok=True)
+        with open(f"{self.folder}/pieces/duke/{self.name}/about", "w", encoding="ascii") as file:
+            json.dump({"user": "duke!ann", "came": f"mysite!{self.now.begun[0]}!{DAY}.10:00:00" if self.now.came else ""}, file)
+        its = restore.Restoration(mock.Mock(), mock.Mock(), "", mock.Mock(path=self.folder), mock.Mock(word="w", mark=mark))
         its._settings = Settings("mysite", "", self.folder, "", f"{self.folder}/log", "UTC0")
-        words = {number: f"mysite duke!ann N 2026-11-28 10:00:00 1 exec uuspool-piece {'0' * 64}.2.1.m {at} exec rmail phs!joe" for number, at in waiting.items()}
-        words |= {number: f"phs duke!ann N 2026-11-28 10:00:00 1 exec uuspool-piece {'f' * 64}.2.1.{its_mark} {at} exec rmail joe" for number, (its_mark, at) in onward.items()}
+        words = {number: f"mysite duke!ann N 2026-11-28 10:00:00 1 exec {self.words[at]}" for number, at in copy.waiting.items()}
+        words |= {number: f"phs duke!ann N 2026-11-28 10:00:00 1 exec {COMMAND} {'f' * 64}.2.1.{its_mark} {at} exec rmail joe" for number, (its_mark, at) in copy.onward.items()}
         said = its._said([Job.read(f"{number} {text}") for number, text in sorted(words.items())])
         left = {number for number in words if number not in said.gone or number in said.lost}
-        self.waiting, self.onward = ({number: it for number, it in jobs.items() if number in left} for jobs in (waiting, onward))
-        if its._again:
-            self.kept, self.came = set(kept), came
+        waiting, onward = ({number: it for number, it in jobs.items() if number in left} for jobs in (copy.waiting, copy.onward))
+        beside = copy if its._again else self.now
+        self.now = FileState(copy.arrived, waiting, beside.kept, beside.begun, beside.came, onward, copy.keys)
+        self.times += 1
         self.log.append(about("restored", mark, "w"))
         self.expect()
 
     def expect(self) -> None:
-        """It comes once: it is on its way or there under one mark, or all of its pieces are here, and aren't known as handed on."""
-        gone = self.there | set(self.onward.values())
+        """It comes once: it is on its way or there under one mark, or its pieces are here, or come again, and aren't known as handed on."""
+        gone = self.there | set(self.now.onward.values())
         marks = [mark for mark, at in gone if at and (mark, 0) in gone]
-        is_here = not self.came and self.kept | set(self.waiting.values()) == {0, 1}
-        if len(marks) + (is_here and self.waiting.keys() > set()) != 1:
+        is_here = not self.now.came and (self.now.waiting or self.missing())
+        if len(marks) + bool(is_here) != 1:
             raise AssertionError(f"{vars(self)} after\n{''.join(self.log)}")
+
+    def complete(self) -> None:
+        """What is here comes to the next site."""
+        while self.now.waiting or self.now.onward or self.missing():
+            self.come()
+            does = self.random.choice([self.deliver] * bool(self.now.waiting) + [self.go] * bool(self.now.onward))
+            does()
+        wholes = [mark for mark, at in self.there if at and (mark, 0) in self.there]
+        if len(wholes) != 1 or (len(self.there) > 2 and not self.is_of_before):
+            raise AssertionError(f"{self.there} came after\n{''.join(self.log)}")
 
 
 class Histories(Folder):
@@ -396,12 +596,34 @@ class Histories(Folder):
             history = FileHistory(seed, self.folder)
             for _ in range(seed % 40):
                 history.step()
+            history.complete()
 
     def test_nothing_is_lost_and_nothing_comes_again(self) -> None:
-        for seed in range(300):
+        for seed in range(400):
             history = History(seed, f"{self.folder}/log")
             for _ in range(seed % 60):
                 history.step()
+            history.complete()
+
+
+class Handed(Folder):
+    def test_what_is_there_of_a_file_that_is_handed_on_again(self) -> None:
+        """It has pieces that came after the copy, unless it says that the file was delivered."""
+        words = f"{COMMAND} {'0' * 64}.2.1.m 0 exec rmail phs!joe"
+        piece = Piece.read(words.split())
+        assert piece
+        name = piece.name("duke!ann")
+        onward = line(13, 11, f"exec -gN -- phs {COMMAND} 0f.2.1.{name} 0 exec rmail joe").replace(" ann ", " duke!ann ")
+        self.put("log", HERE + line(12, 1, "done mysite") + line(12, 2, "done mysite") + onward)
+        for came, again in ("", set()), ("mysite!2!x", {f"duke/{name}"}), (None, {f"duke/{name}"}):
+            if came is None:
+                os.remove(f"{self.folder}/pieces/duke/{name}/about")
+            else:
+                self.put(f"pieces/duke/{name}/about", json.dumps({"user": "duke!ann", "came": came}))
+            its = restore.Restoration(mock.Mock(), mock.Mock(), "", mock.Mock(path=self.folder), mock.Mock(word="w", mark="0a"))
+            its._settings = Settings("mysite", "", self.folder, "", f"{self.folder}/log", "UTC0")
+            said = its._said([Job.read(f"1 mysite duke!ann N 2026-11-28 10:00:00 1 exec {words}")])
+            self.assertEqual((again, {1}), (its._again, said.gone.keys() & said.lost.keys()), came)
 
 
 class Places(Folder):

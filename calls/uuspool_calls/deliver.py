@@ -229,8 +229,8 @@ class Deliverer:
     def _try(self, parcel: Parcel) -> int:
         now = clock.now()
         tries = records.Tries.read(self._folder, self._site.word(), parcel.job, now)
-        if tries.came:
-            return self._finish(parcel.job, Outcome(tries.came), tries, now)
+        if came := self._came(tries):
+            return self._finish(parcel.job, Outcome(came, is_onward=tries.is_onward), tries, now)
         try:
             with files.memory_file(parcel.data) as content:
                 outcome = self._hand_over(self._delivered(tries.of(parcel.job), content), parcel.job)
@@ -255,7 +255,7 @@ class Deliverer:
         """Delivers it."""
         if job.kind == "request" or (job.kind == "exec" and job.words[0] == REQUEST):
             self._send_file(delivered, job.words[job.kind == "exec" :])
-            return Outcome(job.what)
+            return Outcome(job.what, is_onward=True)
         return self._delivery.deliver(delivered)
 
     def _send_file(self, job: Delivered, words: Sequence[str]) -> None:
@@ -297,9 +297,9 @@ class Deliverer:
         """Queues for a neighbour what a job brought or asked for, once."""
         number = int(job.name.split("!")[1])
         key = f"{self._own}!{number}!{why}"
-        what = outgoing.Parcelled(system, job.user, job.grade, key, outgoing.mark_of(job.name), (job.kind, *job.words))
+        what = outgoing.Parcelled(system, job.user, job.grade, key, job.mark or outgoing.mark_of(job.name), (job.kind, *job.words))
         try:
-            outgoing.queue(self._site, what, job.content, self._notes(number))
+            outgoing.queue(self._site, what, job.content, self._notes(number, what.mark))
         except SpoolError as error:
             # (Before a stop it was queued, and the file has changed since.)
             if error.differs:
@@ -308,29 +308,45 @@ class Deliverer:
                 raise Refusal(f"{job.words[0]} cannot be sent from {self._own}: {error}") from None
             raise Delay(f"{job.words[0]} cannot be sent from {self._own} now: {error}") from None
 
-    def _notes(self, number: int) -> outgoing.Notes:
-        """What is kept while the pieces of a job are queued."""
-        path, note = f"{self._folder}/{number}", partial(self._note_pieces, number)
+    def _notes(self, number: int, mark: str) -> outgoing.Notes:
+        """What is noted of the pieces in which a job is queued for a neighbour. They may have the moment of their job in their mark, and in
+        their bytes. So it is noted, because after a stop the same pieces have to be queued, and none if all of them have gone. If the
+        spool was put back since, it doesn't know all that a note says."""
+        path = f"{self._folder}/{number}"
+
+        def note(all_but_one: bool = False) -> None:
+            before = self._tries(number)
+            tries = before._replace(all_but_one=all_but_one, mark=before.mark or mark, restored=self._restored())
+            with self._site.writing("deliver"):
+                tries.write(self._folder, number)
 
         def end(last: outgoing.Last) -> None:
             with self._site.writing("deliver"):
                 files.replace(f"{path}{records.LAST}", " ".join(last.words).encode() + b"\n" + last.data)
             note(all_but_one=True)
 
+        def has_ended() -> bool:
+            tries = self._tries(number)
+            return tries.all_but_one and tries.restored == self._restored()
+
         def last() -> outgoing.Last | None:
-            text = files.read_bytes(f"{path}{records.LAST}", _MOST_OF_A_LAST)
-            if text is None or not self._tries(number).all_but_one:
-                return None
-            line, _, data = text.partition(b"\n")
-            return outgoing.Last(tuple(line.decode().split(" ")), data)
+            text = files.read_bytes(f"{path}{records.LAST}", _MOST_OF_A_LAST) if has_ended() else None
+            line, _, data = (text or b"").partition(b"\n")
+            return outgoing.Last(tuple(line.decode().split(" ")), data) if text else None
 
-        return outgoing.Notes(note, lambda: os.path.exists(path), end, lambda: self._tries(number).all_but_one, last)
+        return outgoing.Notes(note, lambda: os.path.exists(path), end, has_ended, last, lambda: self._tries(number).mark)
 
-    def _note_pieces(self, number: int, all_but_one: bool = False) -> None:
-        """Pieces have the moment of their job in their mark, and in their bytes if they are mail. So it is noted, because after a
-        stop the same pieces have to be queued, and none if all of them have gone."""
-        with self._site.writing("deliver"):
-            self._tries(number)._replace(all_but_one=all_but_one).write(self._folder, number)
+    def _restored(self) -> str:
+        """What differs once the spool is put back."""
+        from . import restored  # (which few jobs need)
+
+        return restored.state(self._site.folder)
+
+    def _came(self, tries: records.Tries) -> str:
+        """What a record says that was delivered, or nothing. If that was queued for another system, a spool that was put back since may not
+        have it, and otherwise knows its key."""
+        is_lost = tries.came and tries.is_onward and tries.restored != self._restored()
+        return "" if is_lost else tries.came
 
     def _tries(self, number: int) -> records.Tries:
         """The record of a job that is being delivered."""
@@ -359,7 +375,7 @@ class Deliverer:
     def has_come(self, parcel: Parcel) -> bool:
         """Whether a job, or the file of which it is a piece, was delivered, and the spool couldn't note that yet."""
         tries = records.Tries.read(self._folder, self._site.word(), parcel.job, clock.now())
-        return tries.came != "" or self._delivery.has_come(self._delivered(parcel.job, -1))
+        return self._came(tries) != "" or self._delivery.has_come(self._delivered(parcel.job, -1))
 
     def _refuse(self, parcel: Parcel, why: str, now: int) -> int:
         """Refuses a job, or tries it later if its command still works."""
@@ -418,7 +434,7 @@ class Deliverer:
         """The command of a job doesn't run again. (A file in pieces has a note of its own.)"""
         if outcome.how == "delivered" and not outcome.is_last:
             with self._site.writing("deliver"):
-                tries._replace(came=outcome.what).write(self._folder, job.number)
+                tries._replace(came=outcome.what, is_onward=outcome.is_onward, restored=self._restored()).write(self._folder, job.number)
 
     def _tell(self, job: Job, outcome: Outcome) -> None:
         """The letters that the sender of a file asked for. (The second may come twice after a stop.)"""

@@ -28,6 +28,7 @@ class Outcome(NamedTuple):
     how: str = "delivered"
     is_last: bool = False  # of the pieces of a file, which is forgotten once the spool knows
     wishes: Wishes = Wishes()
+    is_onward: bool = False  # it was queued for another system
 
 
 class Asked(NamedTuple):
@@ -55,8 +56,7 @@ class Delivery:
         if job.words[0] == COMMAND and job.kind == "exec":
             return self._take_piece(job)
         if job.kind == "exec":
-            self._run(job)
-            return Outcome(job.what)
+            return Outcome(job.what, is_onward=self._run(job))
         put = self.public_of(job.sender).put(job.words[1], job.content, partial(self._names, job))
         return Outcome(job.what + _other(job.words[1], put), wishes=Wishes.read(job.words[2:]))
 
@@ -154,7 +154,7 @@ class Delivery:
         piece = _piece(job)
         kind, *words = piece.words
         with self._held(job) as file:
-            whole = job._replace(kind=kind, words=tuple(words), working=file.working, first=file.about.job)
+            whole = job._replace(kind=kind, words=tuple(words), working=file.working, first=file.about.job, mark=piece.name(job.user))
             if file.about.came_with(job.name):
                 return Outcome(file.about.what, is_last=True, wishes=Wishes.read(words[2:] if kind == "send" else ()))
             if file.about.came:
@@ -233,7 +233,8 @@ class Delivery:
         """The system to which mail goes on as a whole, or nothing."""
         return forward.next_hop(f"{self._session.etc}/forward", job.sender, words) if job.sender and job.words[0] == MAIL else ""
 
-    def _run(self, job: Delivered) -> None:
+    def _run(self, job: Delivered) -> bool:
+        """Runs the command of a job, or hands its mail on. Whether it does that."""
         name, words = job.words[0], self._words(job)
         command = self._command(job)
         if hop := self._hop(job, words):
@@ -242,7 +243,7 @@ class Delivery:
                 raise Refusal(f"{odd}, which is no user of {hop}, would be an option there")
             with envelope.handed_on(job, self._own, self._folder) as content:
                 self._asked.hand_on(hop, job._replace(words=(name, *rest), content=content))
-            return
+            return True
         environment = {**self._environment, **job.environment(), "UUSPOOL_USER": _user_of(job)}
         path = f"{self._session.etc}/commands"
         limit = command.seconds(self._limit, path)
@@ -253,6 +254,7 @@ class Delivery:
         if ended.status:
             line = printable((lines_of(ended.output) or [b""])[0])[:_MOST_SHOWN]
             self._explain(ended.status, name, limit, f"{path}: {command.program}", f": {line}" if line else "")
+        return False
 
     def _given(self, job: Delivered) -> contextlib.AbstractContextManager[int]:
         """The open file that a command gets: the job's bytes, and before mail its envelope."""

@@ -67,10 +67,10 @@ def signed(job: Delivered, own: str, folder: str) -> Iterator[int]:
 
 
 def handed_on(job: Delivered, own: str, folder: str) -> contextlib.AbstractContextManager[int]:
-    """The same for mail that goes on to the next site, to which it comes from this one. (The program writes such a line before
-    what it hands on itself.)"""
+    """The same for mail that goes on to the next site, to which it comes from this one. It keeps the date with which it came, so it has the
+    same bytes if it is handed on again. (The program writes such a line before what it hands on itself.)"""
     lines, length = _lines_of(job.content)
-    return _rewritten([_line(job.moment, plain_user(job.user), own), *lines], length, job.content, folder)
+    return _rewritten([_line(job.moment, plain_user(job.user), own, _date_in(lines)), *lines], length, job.content, folder)
 
 
 def make_plain(content: int, job: Job, own: str, folder: str) -> None:
@@ -88,6 +88,14 @@ def make_plain(content: int, job: Job, own: str, folder: str) -> None:
             os.ftruncate(content, 0)
             os.lseek(content, 0, os.SEEK_SET)
             files.copy_all(whole, content)
+
+
+def _date_in(lines: Sequence[str]) -> str:
+    """The first date in these lines, or nothing."""
+    import re  # (takes long to load)
+
+    dates = (re.match(r" ?((?:[A-Z][a-z]{2} ){2}[ 0-3]?[0-9] (?:[0-9]{2}:){2}[0-9]{2} [0-9]{4})(?: remote from |\Z)", _parted(it)[1]) for it in lines)
+    return next((it[1] for it in dates if it), "")
 
 
 @contextlib.contextmanager
@@ -164,6 +172,6 @@ def _is_of(line: str, user: str, site: str) -> bool:
     return _parted(line)[0] == user and ("remote from " not in line or _is_signed(line, site))
 
 
-def _line(moment: str, user: str, site: str) -> str:
-    date = time.strftime("%a %b %e %H:%M:%S %Y", time.gmtime(clock.seconds("UTC0", moment)))
+def _line(moment: str, user: str, site: str, date: str = "") -> str:
+    date = date or time.strftime("%a %b %e %H:%M:%S %Y", time.gmtime(clock.seconds("UTC0", moment)))
     return f"From {user} {date}" + (f" remote from {site}" if site else "")

@@ -96,6 +96,7 @@ class Delivered(NamedTuple):
     grade: str = "N"
     working: str = ""  # the file that says which process delivers it, if it is tried again
     first: str = ""  # the name of the job that brought its first piece, if it came in pieces and that is known
+    mark: str = ""  # what is the same of the whole whichever job brings it to its end, if it came in pieces
 
     @property
     def what(self) -> str:

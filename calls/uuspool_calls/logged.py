@@ -11,7 +11,8 @@ import contextlib
 import os
 import re
 import zlib
-from collections.abc import Collection, Iterable, Iterator
+from collections.abc import Callable, Collection, Iterable, Iterator, KeysView, Mapping, Sequence
+from types import MappingProxyType
 
 from . import turn
 from .session import acting_as
@@ -29,7 +30,11 @@ _OTHERS = (b"init", b"renumber")  # the lines after which another spool may be t
 _GOES = (b"settle", b"done", b"kill")  # the lines that remove a job
 _QUEUES = (b"send", b"exec", b"request")
 _ANEW = re.compile(rb"-g[!-~] --once=[!-~]+!([1-9][0-9]{0,9})!(again|onward|request) -- ([!-~]+(?: [!-~]+)*)\n?\Z")  # what stands for the job of this number
-_PIECE = re.compile(rb"-g[!-~] (?:--once=[!-~]+!(?:onward|request) )?-- [!-~]+ uuspool-piece [0-9a-f]+\.[0-9]+\.[0-9]+\.([1-9][0-9]{0,9})-[0-9]{4}-[0-9][0-9]-[0-9][0-9]-[0-9:]+ ")  # of what a job of this number handed on
+_PIECE = re.compile(  # of what was handed on: its system, file, the size of that, the length of a piece, mark, place, and what is done with the whole
+    rb"-g[!-~] (?:--once=[!-~]+!(?:onward|request) )?-- ([!-~]+) "
+    rb"uuspool-piece ([0-9a-f]+\.([0-9]{1,18})\.([1-9][0-9]{0,17})\.([0-9A-Za-z:-]+)) ([0-9]{1,18}) (.*)"
+)
+_OF_JOB = re.compile(rb"([1-9][0-9]{0,9})-[0-9]{4}-[0-9][0-9]-[0-9][0-9]-[0-9:]+\Z")  # the mark of what a job of this number handed on
 
 
 class Line(NamedTuple):
@@ -64,12 +69,14 @@ class Said(NamedTuple):
         return self._replace(gone=its, lost={number: anew for number, anew in self.lost.items() if number not in lost})
 
 
-def read(path: str, owner: str, word: str, mark: str, jobs: Iterable[int], times: Iterable[str] = (), pieces: Iterable[int] = ()) -> Said:
+def read(
+    path: str, owner: str, word: str, mark: str, jobs: Iterable[int], times: Iterable[str] = (), marks: Mapping[int, str] = MappingProxyType({})
+) -> Said:
     """What the log at a path says of jobs of the spool with this word since a copy of it was made or put back, whose lines have
-    this mark. It was put back at these times. Some of the jobs brought pieces of files here. For root the owner of the spool opens the
-    files, who may put links there."""
+    this mark. It was put back at these times. Some of the jobs brought pieces of files here, which are handed on with these marks. For root
+    the owner of the spool opens the files, who may put links there."""
     faults: list[str] = []
-    reading = _Reading(word, mark, frozenset(jobs), frozenset(it.encode() for it in times), frozenset(pieces))
+    reading = _Reading(word, mark, frozenset(jobs), frozenset(it.encode() for it in times), marks)
     for words in _lines(path, owner, faults):
         reading.take(words)
     return reading.said(faults)
@@ -77,20 +84,20 @@ def read(path: str, owner: str, word: str, mark: str, jobs: Iterable[int], times
 
 class _Reading:
     """What the lines so far say. A line is about the spool if the last copy that was made or put back before it is the spool's, and
-    no other spool was made since. Those before the first line of the copy only say which jobs stand for each other. Only jobs of the copy
-    are followed, and those that stand for them or for the same ones, which have greater numbers. A job that brought a piece of a file is
-    gone once the piece is kept, so that says nothing of the file."""
+    no other spool was made since. Those before the first line of the copy only say which jobs stand for each other, and what became of the
+    pieces in which jobs were handed on. Only jobs of the copy are followed, and those that stand for them or for the same ones, which have
+    greater numbers. A job that brought a piece of a file is gone once the piece is kept, so that says nothing of the file."""
 
-    def __init__(self, word: str, mark: str, jobs: frozenset[int], times: frozenset[bytes], kept: frozenset[int]) -> None:
+    def __init__(self, word: str, mark: str, jobs: frozenset[int], times: frozenset[bytes], marks: Mapping[int, str]) -> None:
         self._word, self._mark, self._jobs, self._followed, self._times = word.encode(), mark.encode(), jobs, set(jobs), times
-        self._kept = kept
+        self._kept = marks.keys()
+        self._parts = _Parts({its.encode(): number for number, its in sorted(marks.items(), reverse=True)})
         self._gone: dict[int, Line] = {}
         self._done: set[int] = set()  # those for which none stood when they went
         self._anew: dict[int, Anew] = {}  # what stood for each, the last time
         self._stands_for: dict[int, int] = {}  # for which one each stood
-        self._pieces: dict[int, list[list[int]]] = {}  # in which each was handed on, once or again
-        self._open: set[int] = set()  # those for which one stands, and that wait, too, because they are removed behind that
-        self._open_in: dict[bytes, set[int]] = {}  # in each copy
+        self._open: set[tuple[int, bytes]] = set()  # those for which one stands, and that wait, too, because they are removed so behind that
+        self._open_in: dict[bytes, set[tuple[int, bytes]]] = {}  # in each copy
         self._delivered: set[int] = set()
         self._greatest = 0
         self._has_mark = self._is_its = False
@@ -120,54 +127,66 @@ class _Reading:
         self._is_its, is_marked = its[:1] == [self._word], words[6] == self._mark
         if self._is_its and is_marked and not self._has_mark:
             self._has_mark, self._followed = True, set(map(self._first, self._jobs))
+            self._done -= self._jobs
+            self._gone = {number: line for number, line in self._gone.items() if number not in self._jobs}
         if self._is_its and words[5] == COPIED.encode():
             self._open_in[words[6]] = set(self._open)
         elif self._is_its:
             self._open = set(self._open_in.get(words[6], ()))
 
     def _take_job(self, number: int, words: list[bytes]) -> None:
-        if (of := _is_piece_of(words)) and self._is_followed(of):
-            if of not in self._open or of not in self._pieces:
-                self._pieces.setdefault(of, []).append([])
-            self._pieces[of][-1].append(number)
-            self._open.add(of)
-            self._followed.add(number)
+        if of := self._parts.take(number, words, lambda it: it in self._jobs or self._is_followed(it)):
+            self._open.add((of, b"done"))
         elif found := _stands_for(words):
             of, anew = found
             is_known = len(self._stands_for) < _MOST_ANEW  # (Otherwise the other one waits.)
             if self._is_followed(of):
                 self._anew |= {of: anew} if is_known else {}
             self._stands_for |= {number: of} if is_known else {}
-            self._open.add(of)
+            self._open |= {(of, how) for how in _GOES}
         elif words[5] == b"delivered":
             self._delivered |= {number} if self._is_followed(number) else set()
         elif words[6] in _GOES:
             if self._is_followed(number):
                 self._gone[number] = Line(b" ".join(words[:2]).decode(errors="replace"), words[6].decode())
-                self._done |= {number} - self._open - (self._kept if words[6] == b"done" else set())
-            self._open.discard(number)
+                is_open = (number, words[6]) in self._open or (words[6] == b"done" and number in self._kept)
+                self._done |= set() if is_open else {number}
+            self._open -= {(number, how) for how in _GOES}
 
     def _is_followed(self, number: int) -> bool:
-        return self._has_mark and self._first(number) in self._followed
+        first = self._first(number)
+        return first in self._parts.numbers or (self._has_mark and first in self._followed)
 
     def said(self, faults: list[str]) -> Said:
         """What all lines say. Jobs that stand for each other are one thing. If one of them is done, all are. Otherwise one waits: one that
-        isn't gone, or else the last one that the copy has."""
+        isn't gone, or else the last one that the copy has. A job is done, too, if all pieces in which it was handed on are done, or wait
+        in the copy. (What came in pieces is noted beside the spool, so it is delivered again to the end.)"""
+        if not self._has_mark:
+            return Said({}, {}, set(), set(), set(), self._greatest, False, faults)
         done = {self._first(it): self._gone[it] for it in self._done}
-        for number, pieces in sorted(self._pieces.items(), reverse=True):
-            if any(all(self._first(it) in done for it in its) for its in pieces):
-                done[self._first(number)] = self._gone.get(number, Line("", "done"))
+        waiting = {self._first(it) for it in self._jobs} - done.keys()  # (also what is lost, because it is queued anew)
+
+        def end(number: int) -> str:
+            its = done.get(self._first(number))
+            return its.how if its else ""
+
+        def end_or_wait(number: int) -> str:
+            return end(number) or "waits" * (self._first(number) in waiting)
+
+        for number in sorted(self._parts.jobs, reverse=True):
+            if self._parts.are_done(number, end if number in self._kept else end_or_wait):
+                done.setdefault(self._first(number), self._gone.get(number, Line("", "done")))
         kept: dict[int, int] = {}  # of the jobs of the copy that stand for each other, the one that waits
         for number in sorted(self._jobs, key=lambda it: (it not in self._gone, it)):
             kept[self._first(number)] = number
         gone = {it: done.get(self._first(it)) or self._gone[it] for it in self._jobs if it in self._gone or self._first(it) in done}
-        lost = {it: self._last(it, done) for it in gone if self._first(it) not in done and kept[self._first(it)] == it}
-        handed_on = self._jobs & (self._anew.keys() | self._pieces.keys())
+        lost = {it: self._last(it, end_or_wait) for it in gone if self._first(it) not in done and kept[self._first(it)] == it}
+        handed_on = self._jobs & (self._anew.keys() | self._parts.jobs)
         return Said(gone, lost, self._others(), self._delivered, set(handed_on), self._greatest, self._has_mark, faults)
 
     def _others(self) -> set[int]:
         """The jobs that stood for those of the copy, and aren't there."""
-        parts = {number for times in self._pieces.values() for its in times for number in its}
+        parts = {number for of in self._parts.jobs if self._is_followed(of) for number in self._parts.of(of)}
         return ({it for it in self._stands_for if self._is_followed(it)} | parts) - self._jobs
 
     def _first(self, number: int) -> int:
@@ -176,7 +195,7 @@ class _Reading:
             number = self._stands_for[number]
         return number
 
-    def _last(self, number: int, done: Collection[int]) -> Anew:
+    def _last(self, number: int, end: Callable[[int], str]) -> Anew:
         """The last one, with the line of the last one that was queued anew before one was handed on."""
         line: tuple[str, ...] = ()
         is_handed_on = False
@@ -184,8 +203,60 @@ class _Reading:
             number, its = self._anew[number]
             is_handed_on = is_handed_on or not its
             line = line if is_handed_on else its
-        left = [it for it in self._pieces.get(number, [[]])[-1] if self._first(it) not in done]
-        return Anew(max((self._last(it, done).number for it in left), default=number), line)
+        left = [it for it in self._parts.of(number) if not end(it)]
+        return Anew(max((self._last(it, end).number for it in left), default=number), line)
+
+
+class _Whole(NamedTuple):
+    """What was handed on under one name: how many pieces it has, and the jobs that brought each, oldest first, by their places."""
+
+    total: int
+    places: dict[int, list[int]]
+
+
+class _Parts:
+    """The pieces in which jobs of neighbours were handed on, as far as they were queued, once or again under the same name. The mark of
+    a piece has the number of the job, or is that of a file that came in pieces, of which this knows a job."""
+
+    def __init__(self, files: Mapping[bytes, int]) -> None:
+        self._files = files
+        self._wholes: dict[int, dict[bytes, _Whole]] = {}
+        self.numbers: set[int] = set()
+
+    @property
+    def jobs(self) -> KeysView[int]:
+        """The jobs that were handed on."""
+        return self._wholes.keys()
+
+    def take(self, number: int, words: list[bytes], is_wanted: Callable[[int], bool]) -> int:
+        """Takes a line. The number of the job that was handed on, if it is about a piece of one that is wanted, or 0."""
+        found = _PIECE.match(words[7]) if words[6] == b"exec" and b"!" in words[3] and len(words) > 7 else None
+        if not found:
+            return 0
+        its = _OF_JOB.match(found[5])
+        of, size, length, at = int(its[1]) if its else self._files.get(found[5], 0), int(found[3]), int(found[4]), int(found[6])
+        if not (0 < of < number and is_wanted(of)):
+            return 0
+        name = b" ".join((words[3], found[1], found[2], found[7]))
+        whole = self._wholes.setdefault(of, {}).setdefault(name, _Whole(max(1, -(-size // length)), {}))
+        if len(self.numbers) < _MOST_ANEW:  # (Otherwise the job waits.)
+            whole.places.setdefault(at, []).append(number)
+            self.numbers.add(number)
+        return of
+
+    def of(self, number: int) -> list[int]:
+        """The pieces in which a job was handed on."""
+        return [it for whole in self._wholes.get(number, {}).values() for its in whole.places.values() for it in its]
+
+    def are_done(self, number: int, end: Callable[[int], str]) -> bool:
+        """Whether all pieces are done in which a job was handed on, also the last one, which may never have been queued."""
+        return any(len(it.places) == it.total and all(_is_done(its, end) for its in it.places.values()) for it in self._wholes[number].values())
+
+
+def _is_done(jobs: Sequence[int], end: Callable[[int], str]) -> bool:
+    """Whether a piece is done, which these jobs brought one after another: it came with one of them, or the last one was killed."""
+    ends = [end(it) for it in jobs]
+    return ends[-1] != "" or any(it not in ("", "kill") for it in ends)
 
 
 def _stands_for(words: list[bytes]) -> tuple[int, Anew] | None:
@@ -196,13 +267,6 @@ def _stands_for(words: list[bytes]) -> tuple[int, Anew] | None:
     options, _, rest = words[7].partition(b" -- ")
     line = (b"--as=" + words[3], words[6], *options.split(), b"--", *rest.split()) if found[2] == b"again" else ()
     return int(found[1]), Anew(int(words[4]), tuple(it.decode(errors="replace") for it in line))
-
-
-def _is_piece_of(words: list[bytes]) -> int:
-    """The number of the job of a neighbour that was handed on in pieces, of which a job that was queued is one, or 0."""
-    found = _PIECE.match(words[7]) if words[6] == b"exec" and b"!" in words[3] and len(words) > 7 else None
-    number = int(found[1]) if found else 0
-    return number if number < int(words[4]) else 0
 
 
 def _lines(path: str, owner: str, faults: list[str]) -> Iterator[list[bytes]]:

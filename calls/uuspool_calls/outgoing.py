@@ -38,6 +38,7 @@ class Notes(NamedTuple):
     ends: Callable[[Last], None] = lambda last: None  # comes before the last of several, when all others wait
     has_ended: Callable[[], bool] = lambda: False  # whether that came, perhaps before a stop
     last: Callable[[], Last | None] = lambda: None  # with which it came
+    mark: Callable[[], str] = lambda: ""  # under which some were queued before a stop, or nothing
 
 
 def queue(site: Site, what: Parcelled, content: int, notes: Notes = Notes()) -> None:
@@ -51,6 +52,7 @@ def queue(site: Site, what: Parcelled, content: int, notes: Notes = Notes()) -> 
     length = int(carriers.values_of(site.session, what.system).get("piece", 0))
     is_plain = what.words[0] == "exec" or len(what.words) == 3
     line = [f"--as={what.user}", "exec", f"-g{what.grade}", "--", what.system]
+    what = what._replace(mark=notes.mark() or what.mark)
     if last := notes.last():
         _ask(site, what.key, line, last.words, last.data)
     elif is_plain and os.fstat(content).st_size <= (length or MOST_OF_A_JOB):

@@ -25,7 +25,10 @@ class Tries(NamedTuple):
     first: int
     why: str = ""
     came: str = ""
+    is_onward: bool = False  # whether that was queued for another system
     all_but_one: bool = False  # whether all pieces but the last one were queued for a neighbour
+    mark: str = ""  # of these pieces, once the first one may be queued
+    restored: str = ""  # by which it is known whether the spool was put back since
 
     @staticmethod
     def read(folder: str, word: str, job: Job, now: int) -> "Tries":
@@ -33,7 +36,9 @@ class Tries(NamedTuple):
         record = files.read_record(f"{folder}/{job.number}")
         try:
             if _is_about(record, word, job):
-                return Tries(record["job"], word, int(record["failed"]), int(record["next"]), int(record["first"]), str(record["why"]), str(record.get("came", "")), record.get("all_but_one") is True)
+                tries = Tries(record["job"], word, int(record["failed"]), int(record["next"]), int(record["first"]), str(record["why"]), str(record.get("came", "")))
+                tries = tries._replace(is_onward=record.get("is_onward") is True, all_but_one=record.get("all_but_one") is True)
+                return tries._replace(mark=str(record.get("mark", _mark_of_before(record["job"]))), restored=str(record.get("restored", "")))
         except (KeyError, TypeError, ValueError):
             pass
         return Tries(job.line, word, 0, 0, now)
@@ -69,6 +74,12 @@ def _is_about(record: Mapping[str, Any], word: str, job: Job) -> bool:
     then = Job.read(str(record["job"]))
     is_here = word != "" and record.get("word") == word
     return _lasting(then) == _lasting(job) and (is_here or (then.day, then.hour) == (job.day, job.hour))
+
+
+def _mark_of_before(line: str) -> str:
+    """The mark of pieces that an older version may have queued for a job."""
+    job = Job.read(line)
+    return f"{job.number}-{job.day}-{job.hour}"
 
 
 def _lasting(job: Job) -> Job:

@@ -12,13 +12,14 @@ import contextlib
 import os
 import stat
 from collections.abc import Callable, Collection, Mapping, Sequence
+from types import MappingProxyType
 
 from . import files, logged, options, restored, turn
 from .copies import Copier, Target
 from .errors import LATER, NOT_SET_UP, USAGE, Failure, Stopped
 from .jobs import Job, Parcel
 from .journal import Journal
-from .pieces import Piece, folder_of, name_of
+from .pieces import Piece, folder_of, kept_in, name_of
 from .place import ASIDE, INNER, Place
 from .processes import Ended, Program
 from .session import Session, acting_as, user_name
@@ -168,10 +169,13 @@ class Restoration:
         delivered: the piece may be lost. (One that is there may come again.) If it was handed on, and that is lost, all of its pieces
         wait again."""
         parts: dict[str, list[Job]] = collections.defaultdict(list)
+        marks: dict[int, str] = {}
         for job in jobs:
-            if job.system == self._settings.name and Piece.of(job):
+            if job.system == self._settings.name and (piece := Piece.of(job)):
                 parts[name_of(job)].append(job)
-        said = self._read({job.number for job in jobs}, {job.number for its in parts.values() for job in its})
+                marks[job.number] = piece.name(job.user)
+        said, there = self._read({job.number for job in jobs}, marks), self._files_there()
+        self._again = self._handed_on_and_lost(there)
         waiting: set[int] = set()
         done: set[int] = set()
         for its in parts.values():
@@ -181,12 +185,31 @@ class Restoration:
                 done |= numbers
             else:
                 waiting |= {it for it in numbers - handed_on if it in said.gone and said.gone[it].how == "done"}
-                self._again |= {folder_of(its[0])} if handed_on else set()
+                self._again |= {folder_of(its[0])} if handed_on and there.get(folder_of(its[0]), 1) else set()
         return said.without(gone=waiting, lost=done)
 
-    def _read(self, jobs: Collection[int], pieces: Collection[int] = ()) -> logged.Said:
-        """What the log says of jobs since the copy was made. Some of them brought pieces of files here."""
-        return logged.read(self._settings.log, self._owner, self._source.word, self._source.mark, jobs, [it.word for it in self._times], pieces)
+    def _files_there(self) -> dict[str, int]:
+        """The files that came in pieces, as what is there says, each with the number of the job with which it was delivered, or 0. (An
+        unfinished one may have pieces that came after the copy.)"""
+        folder, found = f"{self._place.path}/pieces", {}
+        with acting_as(self._owner):
+            for path in kept_in(folder):
+                if about := files.read_record(f"{path}/about"):
+                    number = str(about.get("came", "")).split("!")[1:2]
+                    found[path.removeprefix(f"{folder}/")] = int(number[0]) if number and is_number(number[0]) else 0
+        return found
+
+    def _handed_on_and_lost(self, there: Mapping[str, int]) -> set[str]:
+        """Those of these files that were handed on since, which is lost. What came after the copy may come again."""
+        names = {number: name for name, number in there.items() if number}
+        if not names:
+            return set()
+        said = self._read(names.keys(), {number: os.path.basename(name) for number, name in names.items()})
+        return {names[number] for number in said.handed_on - (said.gone.keys() - said.lost.keys())}
+
+    def _read(self, jobs: Collection[int], marks: Mapping[int, str] = MappingProxyType({})) -> logged.Said:
+        """What the log says of jobs since the copy was made. Some of them brought pieces of files here, which have these marks."""
+        return logged.read(self._settings.log, self._owner, self._source.word, self._source.mark, jobs, [it.word for it in self._times], marks)
 
     def _handed(self) -> set[int]:
         """The jobs of which notes say that Taylor UUCP has them, or may have them."""

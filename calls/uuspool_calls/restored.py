@@ -6,6 +6,7 @@ The file takes its place with the spool, in one step. So it has the word of a ti
 from collections.abc import Iterable
 
 from . import files
+from .digests import sha256
 from .texts import is_number
 from .values import NamedTuple
 
@@ -39,3 +40,9 @@ def was_done(folder: str, number: int) -> bool:
     back, and its number wasn't given up with a spool that had been put back before."""
     times = times_in((files.read_bytes(f"{folder}/{NAME}", _MOST + 1) or b"").decode(errors="replace"))
     return bool(times) and number < times[-1].end and not any(it.first <= number < it.end for it in times)
+
+
+def state(folder: str) -> str:
+    """What differs if the spool in a folder was put back meanwhile; nothing if it never was."""
+    text = files.read_end(f"{folder}/{NAME}", _MOST)
+    return sha256(text).hexdigest()[:16] if text else ""
