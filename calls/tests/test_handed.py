@@ -61,7 +61,12 @@ class TaylorSpool:
         self.dies()
         if name in self.jobs:
             self.taken_back.add(self.jobs.pop(name).what)
+        self.sync_what_left()
         self.dies()
+
+    def sync_what_left(self) -> None:
+        self.dies()
+        self.synced = {name: it for name, it in self.synced.items() if name in self.jobs}
 
     def sync(self, name: str) -> bool:
         """A job of the spool, and the log, are on the disk."""
@@ -142,7 +147,7 @@ class TaylorSpool:
             if name not in self.synced and self.chance.random() < 0.5:
                 del self.jobs[name]
         for name, it in self.synced.items():
-            if name not in self.jobs and it.what not in self.taken_back and self.chance.random() < 0.5:
+            if name not in self.jobs and self.chance.random() < 0.5:
                 self.jobs[name] = it  # (its removal is lost)
         keeps = self.chance.randint(sum(it.is_synced for it in self.log), len(self.log))
         del self.log[keeps:]
@@ -162,7 +167,7 @@ class History(Folder):
         self.site = site(self.folder, self.spool)
         self.number = 0
         self.wanted: set[str] = set()  # jobs that nobody took back
-        self.gone: set[str] = set()  # those that a user removed or moved
+        self.gone: set[str] = set()  # those that a user removed, and a round took back
         self.had_cut: set[str] = set()  # those that were there in a power cut
 
     def dies(self) -> None:
@@ -186,7 +191,10 @@ class History(Folder):
             it = self.spool.parcels.pop(self.chance.choice(sorted(self.spool.parcels)))
             what = " ".join(it.job.words)
             self.wanted.discard(what)
-            self.gone.add(what)
+            if self.chance.random() < 0.7:
+                Handover(self.site, "duke", self.taylor).take_back()  # type: ignore[arg-type]
+                if what not in self.taylor.came:
+                    self.gone.add(what)
 
     def round(self) -> None:
         """A call of this site."""
@@ -266,6 +274,9 @@ class History(Folder):
                 self.fail(f"seed {seed}: {what} is refused, and came {count} times")
             if count > 1 and what not in self.had_cut:
                 self.fail(f"seed {seed}: {what} came {count} times")
+
+        for what in sorted(self.gone.intersection(self.taylor.came)):
+            self.fail(f"seed {seed}: {what} came though it was taken back")
 
     def refused(self) -> list[str]:
         """The lines of the jobs that were refused."""
