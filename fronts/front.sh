@@ -313,10 +313,10 @@ expect_room() {
     count_room "$*"
     allowed=$((limit - limit / 20)) room=$((limit - limit / 20 - waiting))
     [ "$room" -gt 0 ] || room=0
-    [ "$needed" -le "$allowed" ] ||
-        fail "$refused" "$its_name has $size bytes and needs $needed of the spool, which takes $allowed of a file at most: its limit is $limit"
+    its_need="$its_name has $size bytes and needs $needed of the spool, which"
+    [ "$needed" -le "$allowed" ] || fail "$refused" "$its_need takes $allowed of a file at most: its limit is $limit"
     [ "$needed" -le "$room" ] ||
-        fail "$later" "$its_name has $size bytes and needs $needed of the spool, which has room for $room: queue it once calls made room, or with a larger limit in the settings"
+        fail "$later" "$its_need has room for $room: queue it once calls made room, or with a larger limit in the settings"
 }
 
 # count_room WORDS: $needed is how many bytes of the spool's file all pieces need. The bytes of a piece and its words, with the about 250

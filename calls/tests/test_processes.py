@@ -56,7 +56,8 @@ class Programs(Folder):
         self.assertEqual(127, Processes().run(Program(["true"], "/nowhere", dict(os.environ))).status)
 
     def test_what_a_program_has(self) -> None:
-        """Signals as the system gives them, and no file but its streams. What was ignored before stays so, as by nohup."""
+        """Signals as the system gives them but SIGXFSZ, and no file but its streams. What was ignored before stays so, as by nohup."""
+        size = 1 << signal.SIGXFSZ - 1
         for number in signal.SIGHUP, signal.SIGINT, signal.SIGQUIT:
             self.addCleanup(signal.signal, number, signal.signal(number, signal.SIG_DFL))
         with open("/dev/null", "rb") as file:
@@ -66,14 +67,17 @@ class Programs(Folder):
                 kept = third.fileno(), file.fileno()
                 self.assertEqual({0, 1, 2, *kept}, set(map(int, self.sh("ls /proc/$$/fd", keeps=kept).output.split())), other)
                 self.assertFalse(os.get_inheritable(third.fileno()))
-        self.assertEqual([0, 0], self.blocked_and_ignored())
+        self.assertEqual([0, size], self.blocked_and_ignored())
         signal.signal(signal.SIGHUP, signal.SIG_IGN)
-        self.assertEqual([0, 1 << signal.SIGHUP - 1], self.blocked_and_ignored())
+        self.assertEqual([0, size | 1 << signal.SIGHUP - 1], self.blocked_and_ignored())
 
     def blocked_and_ignored(self) -> list[int]:
         """Two sets of signals, without those that the C library keeps for itself, which make has its programs ignore."""
         words = self.run_words("grep", "-E", "SigBlk|SigIgn", "/proc/self/status").output.split()
         return [int(word, 16) & (1 << signal.SIGSYS) - 1 for word in words[1::2]]
+
+    def test_a_limit_of_a_files_size_ends_no_program(self) -> None:
+        self.assertEqual((0, b"failed\n"), self.sh("{ ulimit -f 0; echo x >file; } 2>/dev/null || echo failed")[:2])
 
     def test_outputs(self) -> None:
         ended = self.sh("echo out; echo err >&2")

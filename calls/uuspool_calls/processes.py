@@ -15,7 +15,6 @@ _GRACE = 10  # seconds from TERM to KILL
 _MARGIN = 5  # seconds after which a program with a limit is ended, whatever happened to `timeout`
 _BLOCK = 65536
 _STOPS = (signal.SIGHUP, signal.SIGINT, signal.SIGTERM)
-_IGNORED = (signal.SIGPIPE, signal.SIGXFSZ)  # by Python, and by no program that it runs
 _NOT_FOUND, _NOT_EXECUTABLE = 127, 126
 _MOST_HANDLES = 1 << 20  # of a process, unless root raises fs.nr_open. Whoever runs this may have left some open
 _ADOPTS = 36  # for the kernel: processes below this one whose parents end become its children
@@ -147,8 +146,8 @@ def execute(words: Sequence[str], folder: str, environment: Mapping[str, str], s
             # (Those below 3 were open before this began, and the handles of a call are above.)
             os.dup2(handle, at)
         _close_all_but(keeps)
-        for number in _IGNORED:
-            signal.signal(number, signal.SIG_DFL)
+        # (Python ignores SIGXFSZ, too, which stays so: a limit of a file's size ends no program that has queued a job.)
+        signal.signal(signal.SIGPIPE, signal.SIG_DFL)
         if folder:
             os.chdir(folder)
         os.execvpe(words[0], list(words), dict(environment))
