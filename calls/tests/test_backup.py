@@ -279,14 +279,15 @@ class Journal(Folder):
 
 class Noted(Folder):
     def test_a_copy_of_which_the_log_has_no_line(self) -> None:
-        """A full disk keeps it from the log, or whose folder is another user's. Then no older copy goes."""
+        """A full disk keeps it from the log. Who may fill that mustn't keep older copies, too."""
         found = mock.Mock(log=f"{self.folder}/log", zone="UTC0")
-        its = mock.Mock(_settings=found, _session=Quiet(self.folder), _owner="", faults=[])
+        its = mock.Mock(_settings=found, _session=Quiet(self.folder), _owner="", faults=[], left_out=[])
         backup.Backup._note(its, "mark word path")
-        self.assertEqual(([], 1), (its.faults, self.bytes_of("log").count(b" copied mark word path\n")))
+        self.assertEqual(([], 1), (its.left_out, self.bytes_of("log").count(b" copied mark word path\n")))
         with mock.patch("os.write", side_effect=OSError(errno.ENOSPC, "full")):
             backup.Backup._note(its, "mark word path")
-        self.assertEqual([f"{self.folder}/log lacks the line of this copy, so all jobs of it wait again once it is put back"], its.faults)
+        self.assertEqual([f"{self.folder}/log lacks the line of this copy, so all jobs of it wait again once it is put back"], its.left_out)
+        self.assertEqual([], its.faults)
 
 
 class Kept(Folder):

@@ -3,7 +3,7 @@
 The copy has spool/, the spool's files and what is kept beside them, as they are in one turn; etc/, which is
 /etc/uuspool; the settings; and what is kept of keys elsewhere. It is made as NAME.new, written to the disk, checked,
 and only then renamed, so a copy without that ending is whole. With -k only the newest copies stay, unless the spool of
-the new one has a fault, or the log lacks its line. What is left out beside the spool, where its user may put anything, keeps no older copy.
+the new one has a fault. What is left out beside the spool, where its user may put anything, keeps no older copy.
 
 root or the spool's user runs it. Who runs it alone can enter the copy, because it has jobs and keys. What root copies
 keeps its owners."""
@@ -153,7 +153,7 @@ class Backup:
         if self._owner.isdecimal() and os.geteuid() == 0:
             raise Failure(NOT_SET_UP, f"{found.folder} belongs to user {self._owner}, who has no account")
         self.number = os.stat(found.folder).st_uid if os.geteuid() == 0 else os.geteuid()  # of the user whose files the copy has
-        self.faults: list[str] = []  # of the spool in the copy, or of the log
+        self.faults: list[str] = []  # of the spool in the copy
         self.left_out: list[str] = []  # what else isn't in it, and why
 
     def make(self) -> str:
@@ -204,7 +204,7 @@ class Backup:
         with acting_as(self._owner):
             log = Journal(self._settings.log, self._settings.zone, self._session.say)
             if not log.note("", user_name(os.geteuid()), "", logged.COPIED, line, lasts=True):
-                self.faults.append(f"{self._settings.log} lacks the line of this copy, so all jobs of it wait again once it is put back")
+                self.left_out.append(f"{self._settings.log} lacks the line of this copy, so all jobs of it wait again once it is put back")
 
     def _sizes(self, target: Target) -> str:
         """The bytes of the copied files of the spool."""
