@@ -286,8 +286,8 @@ look_at_pieces() {
     [ -z "$named" ] || most=$named piece=$named
 }
 
-# (Of a file that grows, what it had at the beginning goes.) Each piece says which file it belongs to, by sum, size, length of a piece and a mark of its own, where it
-# begins, and what is to be done with the whole. The number of the first is that of the file.
+# Each piece says which file it belongs to, by sum, size, length of a piece and a mark of its own, where it
+# begins, and what is to be done with the whole. The number of the first is that of the file. (Of a file that grows goes what it had.)
 queue_pieces() {
     [ "$size" -le "$most" ] || expect_room "$@"
     trap 'stopped=yes' HUP INT TERM
@@ -322,12 +322,16 @@ expect_room() {
 # count_room WORDS: $needed is how many bytes of the spool's file all pieces need. The bytes of a piece and its words, with the about 250
 # bytes of its number, name and place, are a row each, and two rows larger than half a page of 4,096 bytes share none.
 count_room() {
-    whole=$((size / piece)) rest=$((size % piece))
-    count_row "$((250 + ${#1}))" && needed=$((row * (whole + (rest > 0))))
-    count_row "$piece" && needed=$((needed + row * whole))
-    [ "$rest" -eq 0 ] || { count_row "$rest" && needed=$((needed + row)); }
+    pieces=$((size / piece)) rest=$((size % piece))
+    count_row "$((250 + ${#1}))"
+    needed=$((row * (pieces + (rest > 0))))
+    count_row "$piece"
+    needed=$((needed + row * pieces))
+    count_row "$rest"
+    [ "$rest" -eq 0 ] || needed=$((needed + row))
 }
 
+# count_row BYTES: $row is how many bytes of the spool's file a row of so many needs.
 count_row() {
     if [ "$1" -le 2030 ]; then row=$((4096 / (4076 / ($1 + 8)) + 1)); else row=$(($1 + $1 / 1000 + 2048)); fi
 }
