@@ -160,7 +160,7 @@ class _Reading:
     def said(self, faults: list[str]) -> Said:
         """What all lines say. Jobs that stand for each other are one thing. If one of them is done, all are. Otherwise one waits: one that
         isn't gone, or else the last one that the copy has. A job is done, too, if all pieces in which it was handed on are done, or wait
-        in the copy. (What came in pieces is noted beside the spool, so it is delivered again to the end.)"""
+        in the copy."""
         if not self._has_mark:
             return Said({}, {}, set(), set(), set(), self._greatest, False, faults)
         done = {self._first(it): self._gone[it] for it in self._done}
@@ -168,19 +168,16 @@ class _Reading:
 
         def end(number: int) -> str:
             its = done.get(self._first(number))
-            return its.how if its else ""
-
-        def end_or_wait(number: int) -> str:
-            return end(number) or "waits" * (self._first(number) in waiting)
+            return its.how if its else "waits" * (self._first(number) in waiting)
 
         for number in sorted(self._parts.jobs, reverse=True):
-            if self._parts.are_done(number, end if number in self._kept else end_or_wait):
+            if self._parts.are_done(number, end):
                 done.setdefault(self._first(number), self._gone.get(number, Line("", "done")))
         kept: dict[int, int] = {}  # of the jobs of the copy that stand for each other, the one that waits
         for number in sorted(self._jobs, key=lambda it: (it not in self._gone, it)):
             kept[self._first(number)] = number
         gone = {it: done.get(self._first(it)) or self._gone[it] for it in self._jobs if it in self._gone or self._first(it) in done}
-        lost = {it: self._last(it, end_or_wait) for it in gone if self._first(it) not in done and kept[self._first(it)] == it}
+        lost = {it: self._last(it, end) for it in gone if self._first(it) not in done and kept[self._first(it)] == it}
         handed_on = self._jobs & (self._anew.keys() | self._parts.jobs)
         return Said(gone, lost, self._others(), self._delivered, set(handed_on), self._greatest, self._has_mark, faults)
 

@@ -21,7 +21,7 @@ from .digests import sha256
 from .errors import Delay, Refusal
 from .jobs import Job
 from .texts import is_number, is_sum
-from .values import NamedTuple
+from .values import Any, NamedTuple
 
 COMMAND = "uuspool-piece"
 SIZE = 1_000_000  # bytes of a piece, unless the neighbour's entry names others
@@ -31,10 +31,10 @@ UNTOLD = ".untold"  # behind it, while nobody was told
 _FREE = 20  # a part of the disk stays free of pieces: one of so many
 _MOST_DIGITS = 18  # of a size or a place
 _MOST_OF_A_MARK = 64
-_ABOUT, _WHOLE = "about", "whole"
+ABOUT, _WHOLE = "about", "whole"
 _FRONT = "front"  # how many bytes of the whole are on the disk
 _WORKS = "works"  # says which process works on the whole
-_CAME = "came"  # becomes _ABOUT once the whole is delivered, if the disk is full then
+_CAME = "came"  # becomes ABOUT once the whole is delivered, if the disk is full then
 
 IsOld = Callable[[str, int], bool]  # whether what a path names lies unchanged for so many days
 
@@ -150,7 +150,7 @@ class About(NamedTuple):
     why: str = ""  # it is refused
 
     @staticmethod
-    def read(folder: str, name: str = _ABOUT) -> "About | None":
+    def read(folder: str, name: str = ABOUT) -> "About | None":
         """What a folder says."""
         kept = files.read_record(f"{folder}/{name}")
         try:
@@ -165,9 +165,13 @@ class About(NamedTuple):
         """Whether it was delivered with the job of this name. (What the site's clock shows of the job may have changed.)"""
         return self.came == job or self.came.rpartition("!")[0] == job.rpartition("!")[0] != ""
 
-    def write(self, folder: str, name: str = _ABOUT) -> None:
+    def record(self) -> dict[str, Any]:
+        """What is written of it."""
+        return {name: value for name, value in self._asdict().items() if value}
+
+    def write(self, folder: str, name: str = ABOUT) -> None:
         """Keeps it."""
-        files.write_record(f"{folder}/{name}", {name: value for name, value in self._asdict().items() if value})
+        files.write_record(f"{folder}/{name}", self.record())
 
 
 def _adopted(folder: str, user: str, to: str, size: int) -> About:
@@ -272,7 +276,7 @@ class File:
         try:
             self.about.write(self.folder)
         except OSError:
-            os.replace(f"{self.folder}/{_CAME}", f"{self.folder}/{_ABOUT}")
+            os.replace(f"{self.folder}/{_CAME}", f"{self.folder}/{ABOUT}")
 
     def count(self) -> int:
         """How many pieces are here."""
@@ -292,7 +296,7 @@ class File:
         if not self.about.piece.mark:
             files.remove_folder(self.folder)
         for name in files.names_in(self.folder):
-            if name != _ABOUT:
+            if name != ABOUT:
                 files.remove(f"{self.folder}/{name}")
         files.remove(f"{self.folder}.lock")
 

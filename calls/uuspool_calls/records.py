@@ -36,7 +36,8 @@ class Tries(NamedTuple):
         record = files.read_record(f"{folder}/{job.number}")
         try:
             if _is_about(record, word, job):
-                tries = Tries(record["job"], word, int(record["failed"]), int(record["next"]), int(record["first"]), str(record["why"]), str(record.get("came", "")))
+                failed, then, first = (int(record[it]) for it in ("failed", "next", "first"))
+                tries = Tries(record["job"], word, failed, then, first, str(record["why"]), str(record.get("came", "")))
                 tries = tries._replace(is_onward=record.get("is_onward") is True, all_but_one=record.get("all_but_one") is True)
                 return tries._replace(mark=str(record.get("mark", _mark_of_before(record["job"]))), restored=str(record.get("restored", "")))
         except (KeyError, TypeError, ValueError):

@@ -19,7 +19,7 @@ from .copies import Copier, Target
 from .errors import LATER, NOT_SET_UP, USAGE, Failure, Stopped
 from .jobs import Job, Parcel
 from .journal import Journal
-from .pieces import Piece, folder_of, kept_in, name_of
+from .pieces import ABOUT, About, Piece, folder_of, kept_in, name_of, whole_of
 from .place import ASIDE, INNER, Place
 from .processes import Ended, Program
 from .session import Session, acting_as, user_name
@@ -100,6 +100,7 @@ class Restoration:
         self._is_same = False  # whether the spool that is there has the word of the copy's
         self._times: list[restored.Time] = []  # when the copy's spool was put back before
         self._again: set[str] = set()  # the folders below `pieces` of files that are to be handed on again
+        self._finished: dict[str, About] = {}  # those of files that were handed on, and what is noted of each
         self._why = ""  # the program failed
 
     def make(self, least: int) -> None:
@@ -179,14 +180,23 @@ class Restoration:
         waiting: set[int] = set()
         done: set[int] = set()
         for its in parts.values():
-            numbers = {job.number for job in its}
+            numbers, folder = {job.number for job in its}, folder_of(its[0])
             handed_on = numbers & said.handed_on
             if handed_on & said.gone.keys() - said.lost.keys() if handed_on else numbers & said.delivered:
                 done |= numbers
+                self._finished |= {folder: self._about(its[0])} if handed_on else {}
             else:
                 waiting |= {it for it in numbers - handed_on if it in said.gone and said.gone[it].how == "done"}
-                self._again |= {folder_of(its[0])} if handed_on and there.get(folder_of(its[0]), 1) else set()
-        return said.without(gone=waiting, lost=done)
+                self._again |= {folder} if handed_on and there.get(folder, 1) else set()
+        self._again -= self._finished.keys()
+        said = said.without(gone=waiting, lost=done)
+        return said._replace(gone={number: logged.Line("", "done") for number in done} | said.gone)
+
+    def _about(self, job: Job) -> About:
+        """What is noted of a file that was delivered, of which a job brought a piece."""
+        piece, name = Piece.of(job), f"{self._settings.name}!{job.number}!{job.day}.{job.hour}"
+        assert piece
+        return About(piece, job.user, name, name, whole_of(job).what)
 
     def _files_there(self) -> dict[str, int]:
         """The files that came in pieces, as what is there says, each with the number of the job with which it was delivered, or 0. (An
@@ -194,7 +204,7 @@ class Restoration:
         folder, found = f"{self._place.path}/pieces", {}
         with acting_as(self._owner):
             for path in kept_in(folder):
-                if about := files.read_record(f"{path}/about"):
+                if about := files.read_record(f"{path}/{ABOUT}"):
                     number = str(about.get("came", "")).split("!")[1:2]
                     found[path.removeprefix(f"{folder}/")] = int(number[0]) if number and is_number(number[0]) else 0
         return found
@@ -354,18 +364,27 @@ class Restoration:
     def _fill(self, made: Target, known: Collection[int]) -> None:
         """Puts beside the made spool what is beside the one that is there, and what only the copy has. (If that is another spool,
         what is noted of its jobs stays there.) These jobs are in the copy, or gone since. A file that is to be handed on again is
-        as the copy has it, because the one that is there says that it was delivered."""
+        as the copy has it, because the one that is there says that it was delivered. One that was handed on to the end, whenever a stop
+        came, is noted so, because it would be handed on again, or refused after some weeks."""
+        import json  # (takes long to load)
+
         names = {it for it in os.listdir(self._place.handle) if self._is_carried(it)}
         again = [f"pieces/{it}" for it in sorted(self._again)]
+        without = [f"{self._place.path}/pieces/{it}" for it in self._again | self._finished.keys()]
         lost = [path for path, numbers in self._being_handed().items() if not numbers.issubset(known)]
-        with Copier([self._place.seen.st_uid], self._owner, [*(f"{self._place.path}/{it}" for it in again), *lost]) as copier:
+        with Copier([self._place.seen.st_uid], self._owner, [*without, *lost]) as copier:
             for name in sorted(names):
                 self._carry(name, made, copier, known)
             self._finish(copier)
-        with Copier([self._place.seen.st_uid]) as copier:
+        with Copier([self._place.seen.st_uid], without=[f"{self._source.path}/spool/pieces/{it}" for it in self._finished]) as copier:
             for name in [it for it in BESIDE if it not in names] + again * ("pieces" in names):
                 self._source.take(name, made, copier)
             self._finish(copier)
+        for name, about in self._finished.items():
+            target = made
+            for part in ("pieces", *name.split("/")):
+                target = target.folder(part, self._place.seen)
+            target.put_text(ABOUT, json.dumps(about.record()), self._place.seen)
 
     def _finish(self, copier: Copier) -> None:
         copier.finish()
