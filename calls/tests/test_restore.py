@@ -843,9 +843,9 @@ class Numbers(Folder):
         for system, numbers in ("duke", "[3, 4]"), ("phs", "[4, 7]"), ("unc", "7"):
             self.put(f"spool/taylor/{system}/begun.json", f'{{"numbers": {numbers}}}')
             self.put(f"spool/taylor/{system}/9.json")
-        its = restore.Restoration.__new__(restore.Restoration)
-        its._place, its._source = mock.Mock(path=f"{self.folder}/spool", seen=os.stat(self.folder)), mock.Mock()
-        its._source.name, its._owner, its._again, its._finished, its._is_same, its.faults = "spool.db", "", set(), {}, True, []
+        there = mock.Mock(path=f"{self.folder}/spool", seen=os.stat(self.folder))
+        its = restore.Restoration(Quiet(self.folder), mock.Mock(), "", there, mock.Mock())
+        its._source.name, its._is_same = "spool.db", True
         with files.opened(f"{self.folder}/spool") as its._place.handle:
             self.assertEqual({3, 4, 7, 9}, its._handed())
             its._fill(Target(f"{self.folder}/made"), {3, 4, 9})
