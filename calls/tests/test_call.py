@@ -245,11 +245,12 @@ class Calls(Folder):
     def test_a_status_of_the_neighbours_shell_is_that_of_a_failed_call(self) -> None:
         """Otherwise no wait would begin, and the neighbour would be called each minute. It isn't if the carrier misses a program here."""
         script, here = self.put("script", "#!/bin/sh\n", 0o755), self.site.session
+        cannot = self.put("cannot", "#!/nowhere -x\n", 0o755)
         here.environment["PATH"] = f"{self.folder}/bin"
         for name in "ssh", "command", "taylor":
             self.put(f"lib/uuspool/carriers/{name}", "", 0o755)
         for name, words, fails in (
-            ("command", (script,), True), ("command", ("/nowhere",), False), ("ssh", ("host",), False), ("taylor", (), False), ("", (), True),
+            ("command", (script,), True), ("command", (cannot,), False), ("command", ("/nowhere",), False), ("ssh", ("host",), False), ("taylor", (), False), ("", (), True),
         ):  # fmt: skip
             program = f"{self.folder}/lib/uuspool/carriers/{name}" if name else script
             carrier = carriers.Carrier("/entry", program, ("duke", *words))

@@ -26,6 +26,7 @@ from . import ssh
 TAYLORS = BY_BUNDLES, BY_JOBS = "uucico", "taylor"  # the carriers of Taylor UUCP, to which the second hands the jobs themselves
 NO_CALL = "--no-call"  # of the carrier `taylor`: Taylor's own schedule makes the calls
 _LEAST = 1000  # bytes of a bundle or a piece
+_MOST_OF_A_LINE = 256  # bytes of the first one of a script
 May = Callable[[str, int], bool]  # whether the spool's user may use a file, as os.access says it
 
 
@@ -93,7 +94,7 @@ class Carrier(NamedTuple):
         if status not in (126, 127):
             return False
         program = self.line(session, own)[0]
-        return (self.kind(session) != "" and program == self.program) or not session.finds(program)
+        return (self.kind(session) != "" and program == self.program) or not _can_begin(session, program)
 
     def explained(self, session: Session, status: int) -> str:
         """What a status of the carrier means, if that is known."""
@@ -124,6 +125,13 @@ def has_plain_taylor(session: Session, neighbour: str, may: May = os.access) -> 
     with contextlib.suppress(NoCarrier):
         return find(session, neighbour, may).hands_jobs(session)
     return False
+
+
+def _can_begin(session: Session, program: str) -> bool:
+    """Whether a program is there, and so is the one that runs it, if its first line names one."""
+    head, _, _ = (read_bytes(program, _MOST_OF_A_LINE) or b"").partition(b"\n")
+    runs = head.removeprefix(b"#!").split(maxsplit=1) if head.startswith(b"#!") else []
+    return all(map(session.finds, (program, *map(os.fsdecode, runs[:1]))))
 
 
 def handed_on_at_once(session: Session, systems: Iterable[str]) -> list[str]:
