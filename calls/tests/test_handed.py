@@ -1,5 +1,6 @@
 """Random histories of jobs that are handed to Taylor UUCP: calls that break, kills, power cuts, logs that are rotated, and users who
 change their minds. Nothing is lost, nothing is refused that Taylor has or brought, and only a power cut has a job come twice."""
+import contextlib
 import os
 import random
 from collections.abc import Callable
@@ -253,7 +254,13 @@ class History(Folder):
             self.spool.parcels.pop(number or 0, None)
             self.dies()
 
-        with mock.patch.object(files, "write_record", dying_write), mock.patch.object(files, "remove", dying_remove), mock.patch.object(self.spool, "done", dying_done), mock.patch("uuspool_calls.clock.boot", lambda: str(self.boot)):
+        patched = (
+            mock.patch.object(files, "write_record", dying_write), mock.patch.object(files, "remove", dying_remove), mock.patch.object(self.spool, "done", dying_done),
+            mock.patch("uuspool_calls.clock.boot", lambda: str(self.boot)), mock.patch("os.fsync"),
+        )  # fmt: skip
+        with contextlib.ExitStack() as stack:
+            for it in patched:
+                stack.enter_context(it)
             for _ in range(_STEPS):
                 self.step()
             self.chance.random = lambda: 0.5  # type: ignore[method-assign]

@@ -178,7 +178,13 @@ class Minds(Folder):
             return work
 
         steps = self.queue, self.queue, self.move, self.move, self.refuse, self.remove, self.call, self.call, self.finish
-        with mock.patch.object(files, "write_record", dying(write)), mock.patch.object(files, "remove", dying(remove)), mock.patch.object(files, "replace", dying(replace)), mock.patch.object(os, "rename", dying(rename)):
+        patched = (
+            mock.patch.object(files, "write_record", dying(write)), mock.patch.object(files, "remove", dying(remove)), mock.patch.object(files, "replace", dying(replace)),
+            mock.patch.object(os, "rename", dying(rename)), mock.patch("os.fsync"),
+        )  # fmt: skip
+        with contextlib.ExitStack() as stack:
+            for it in patched:
+                stack.enter_context(it)
             for _ in range(_STEPS):
                 self.chance.choice(steps)()
         for name in (*_NEIGHBOURS, *_NEIGHBOURS):
