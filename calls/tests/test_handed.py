@@ -276,8 +276,7 @@ class History(Folder):
             count = self.taylor.came.count(what)
             if count == 0 and what not in refused:
                 self.fail(f"seed {seed}: {what} is lost")
-            # (A power cut may take the line that says that it was sent, and then the neighbour says that it has it, and Taylor nothing.)
-            if what in refused and what not in self.taylor.taken_back and not (count and what in self.had_cut):
+            if what in refused and what not in self.taylor.taken_back:
                 self.fail(f"seed {seed}: {what} is refused, and came {count} times")
             if count > 1 and what not in self.had_cut:
                 self.fail(f"seed {seed}: {what} came {count} times")
