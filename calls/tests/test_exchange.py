@@ -173,6 +173,17 @@ class Taking(Folder):
         self.assertEqual(["the spool of duke refuses job 8: NumbersOut", "the sys file of duke has to define duke, its own name"], faults)
         self.assertEqual(b"it is too large for duke", self.bytes_of("refused/7").partition(b"\n")[0])
 
+    def test_many_jobs_that_a_neighbour_refuses_are_one_letter(self) -> None:
+        numbers = range(1, 31)
+        self.spool.parcels = {it: parcel(LINE.replace("7", str(it), 1)) for it in numbers}
+        for reason, is_done in ("TooLarge", False), ("Stale", True):
+            self.spool.settled = Settled((), tuple(Refused(it, reason) for it in numbers))
+            self.site.session.processes = mailer = Mailer()
+            with mock.patch.object(Neighbour, "_was_done", return_value=is_done):
+                self.neighbour.take(TEXT)
+            self.assertEqual((1, {}), (len(mailer.ran), self.spool.parcels))
+            self.spool.parcels = {it: parcel(LINE.replace("7", str(it), 1), b"other") for it in numbers}
+
     def test_a_job_that_cannot_be_queued_anew(self) -> None:
         self.spool.settled = Settled((), (Refused(7, "Differs"),))
         for step, job in ("queue", 7), ("kill", 7):

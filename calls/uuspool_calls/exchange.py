@@ -208,21 +208,25 @@ class Neighbour:
         """Handles the jobs that the neighbour's spool refuses. Under its number and mark it never takes
         such a job again, so the job gets another number, unless it was done before this site's spool was put back. If the spool
         was put back by hand or got another word, the job may have come before, and then comes twice."""
-        passed = False
+        passed = is_untold = False
         for refused in taken.settled.refused:
             if refused.reason == "Stale" and self._was_done(refused.number):
-                self._refuse_done(taken, refused.number)
+                is_untold |= self._refuse_done(taken, refused.number)
             elif refused.reason in ("Differs", "Stale"):
                 times = 1
                 if refused.reason == "Stale" and not passed:
                     times, passed = self._numbers_to_pass(), True
                 self._requeue(taken, refused, times)
             elif refused.reason == "TooLarge":
-                self._refuse(refused.number)
+                is_untold |= self._refuse(refused.number)
             elif refused.reason == "NoSystem":
                 taken.faults.append(f"the sys file of {self._name} has to define {self._name}, its own name")
             else:
                 taken.faults.append(f"the spool of {self._name} refuses job {refused.number}: {refused.reason}")
+        if is_untold:
+            from .refusals import tell
+
+            tell(self._site, at_once=False)  # (once, because many are one letter)
 
     def _was_done(self, number: int) -> bool:
         """Whether a job that the neighbour calls `Stale` was done before the spool was put back."""
@@ -230,26 +234,24 @@ class Neighbour:
 
         return restored.was_done(self._site.folder, number)
 
-    def _refuse_done(self, taken: Taken, number: int) -> None:
+    def _refuse_done(self, taken: Taken, number: int) -> bool:
         """Refuses a job of a copy that was put back. The neighbour was told that no job of its number comes any more, so it had
         the job before, or the job was killed or moved here before. Nobody knows which if the log is lost, so it is kept."""
-        from .refusals import Refuser, tell
+        from .refusals import Refuser
 
         parcel = self._site.spool.show(number)
         why = f"{self._name} had it before the spool here was put back, or it was moved or killed before: queue it again if it never came"
-        if parcel and Refuser(self._site).refuse_alone(parcel, why):
-            taken.removed += 1
-            tell(self._site, at_once=False)
+        is_refused = parcel is not None and Refuser(self._site).refuse_alone(parcel, why)
+        taken.removed += is_refused
+        return is_refused
 
-    def _refuse(self, number: int) -> None:
-        from .refusals import Refuser, tell
+    def _refuse(self, number: int) -> bool:
+        from .refusals import Refuser
 
         with self._site.alone():
             finish_begun(self._site, self._name)
             parcel = self._site.spool.show(number)
-            is_refused = parcel is not None and Refuser(self._site).refuse(parcel, f"it is too large for {self._name}")
-        if is_refused:
-            tell(self._site, at_once=False)
+            return parcel is not None and Refuser(self._site).refuse(parcel, f"it is too large for {self._name}")
 
     def _numbers_to_pass(self) -> int:
         """The neighbour doesn't say up to which number it forgot all, so each bundle of a call that says
