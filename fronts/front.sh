@@ -16,6 +16,7 @@ later=75   # try again
 export LC_ALL=C
 # By a small limit of a file's size (ulimit -f) a write fails, and ends nothing that has queued a job.
 trap '' XFSZ
+stops='HUP INT QUIT ALRM TERM USR1 USR2 VTALRM PROF XCPU' # what ends a shell that can still tidy up
 
 # A local user may not enter the spool's folder, so he asks by sudo, which says who he is. Whatever else the owner runs may
 # take a folder, a terminal or an open file from what sudo begins, so that gets none of the user's: in a session of its own
@@ -35,7 +36,8 @@ fi
 its_pieces='' stopped=''
 end() {
     status=$?
-    trap '' HUP INT TERM PIPE
+    # shellcheck disable=SC2086 # (several words)
+    trap '' $stops PIPE
     has_input=''
     [ -z "$its_pieces" ] || command eval remove_pieces || printf '%s\n' "$front: some pieces may wait for $system: uustat -k removes them" >&2
     case $status in 0 | "$usage" | "$refused" | "$later") ;; *) exit "$later" ;; esac
@@ -112,7 +114,8 @@ unknown() { fail "$usage" "no option $1: see $front --help"; }
 # A key of the terminal ends nothing that queues a piece. What sudo warns of is no part of an answer.
 run_line() {
     said=$(
-        [ -z "$its_pieces" ] || trap '' HUP INT TERM
+        # shellcheck disable=SC2086
+        [ -z "$its_pieces" ] || trap '' $stops
         exec 3>&1
         errors=$({ $spool "$@" 3>&-; printf '\n=%s' "$?" >&2; } 2>&1 >&3)
         ended=${errors##*"$newline="} errors=${errors%"$newline="*}
@@ -290,7 +293,8 @@ look_at_pieces() {
 # begins, and what is to be done with the whole. The number of the first is that of the file. (Of a file that grows goes what it had.)
 queue_pieces() {
     [ "$size" -le "$most" ] || expect_room "$@"
-    trap 'stopped=yes' HUP INT TERM
+    # shellcheck disable=SC2086
+    trap 'stopped=yes' $stops
     sum=$(head -c "$size" <"$input" | sha256sum) && read -r mark </proc/sys/kernel/random/uuid || fail "$later" "$its_name: cannot read"
     its_pieces=${sum%% *}.$size.$piece.$mark at=0 first=''
     while [ "$at" -eq 0 ] || [ "$at" -lt "$size" ]; do
@@ -300,7 +304,8 @@ queue_pieces() {
         first=${first:-$number} at=$((at + piece))
     done
     number=$first its_pieces=''
-    trap - HUP INT TERM
+    # shellcheck disable=SC2086
+    trap - $stops
 }
 
 # expect_room WORD..: all pieces with these words need room in the spool, of which a twentieth stays for other jobs. If only some
