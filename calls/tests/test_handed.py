@@ -80,6 +80,9 @@ class TaylorSpool:
         self.dies()
         return True
 
+    def begin_names(self) -> None:
+        """Nothing to do."""
+
     def mark(self) -> Mark:
         return Mark(self.file, len(self.log))
 

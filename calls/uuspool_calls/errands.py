@@ -121,12 +121,12 @@ def fate(said: list[str], job: Job, name: str) -> Fate:
     """What became of the job that has this name in the log. What was said last counts, because Taylor tries again after
     some errors."""
     job, _ = plain(job)
-    origin, here = _names(job, name)
+    names = _names(job, name)
     went, why = False, ""
     for text in said:
-        if _went(text, job, here or origin):
+        if _went(text, job, names):
             went, why = True, ""
-        elif text.startswith("ERROR: ") and (reason := _reason(text.removeprefix("ERROR: "), (origin, here))):
+        elif text.startswith("ERROR: ") and (reason := _reason(text.removeprefix("ERROR: "), names)):
             why = reason
     return Fate(went, why)
 
@@ -134,15 +134,25 @@ def fate(said: list[str], job: Job, name: str) -> Fate:
 def sendings(said: list[str], job: Job, name: str) -> list[int]:
     """Which of these lines say that the job is sent or fetched."""
     job, _ = plain(job)
-    origin, here = _names(job, name)
-    its = here or origin
-    return [at for at, text in enumerate(said) if its in text and _went(text, job, its)]
+    names = _names(job, name)
+    its = names.here or names.origin
+    return [at for at, text in enumerate(said) if its in text and _went(text, job, names)]
 
 
-def _names(job: Job, name: str) -> tuple[str, str]:
-    """The names of a job in the log: the file at its origin, and where a fetched one comes to."""
-    origin, _, here = name.partition(" to ") if job.kind == "request" else (name, "", "")
-    return origin, here
+class _Names(NamedTuple):
+    """The names of a job in the log: the file at its origin, and where a fetched one comes to, and what it is if that is a folder."""
+
+    origin: str
+    here: str = ""
+    inside: str = ""
+
+
+def _names(job: Job, name: str) -> _Names:
+    if job.kind != "request":
+        return _Names(name)
+    origin, _, here = name.partition(" to ")
+    here = here or origin
+    return _Names(origin, here, f"{here.rstrip('/')}/{origin.rpartition('/')[2]}")
 
 
 def was_queued(said: list[str], name: str) -> bool:
@@ -150,17 +160,18 @@ def was_queued(said: list[str], name: str) -> bool:
     return any(text.startswith("Queuing ") and name in text for text in said)
 
 
-def _went(text: str, job: Job, name: str) -> bool:
+def _went(text: str, job: Job, names: _Names) -> bool:
+    name = names.origin
     if job.kind == "exec" and not name:
         return text.startswith(f"Sending {' '.join(job.words)} (D.")
     if job.kind == "exec":
         return text.startswith("Sending ") and f" ({name}) (" in text
     if job.kind == "send":
         return text.startswith(f"Sending {name} (")
-    return text == f"Receiving {name}" or text.startswith((f"Receiving {name} (", f"Receiving {name}/"))
+    return any(text == f"Receiving {it}" or text.startswith(f"Receiving {it} (") for it in (names.here, names.inside))
 
 
-def _reason(text: str, names: tuple[str, str]) -> str:
+def _reason(text: str, names: _Names) -> str:
     """Why one of these failed, if an error is about it."""
     for name in names:
         if name and text.startswith(f"{name}: "):
