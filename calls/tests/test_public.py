@@ -457,9 +457,9 @@ class Envelopes(Folder):
         ours, date = b"From duke!mysite_!x_ann Sun Nov  8 09:30:00 2026 remote from mysite\n", b" Nov 28 1:00 remote from mysite\n"
         for written, plain in (
             (ours, ours), (b"From duke!x<ann@mysite>" + date, b"From duke!mysite_!x_ann" + date), (b"From duke!x<ann@mysite> remote from mysite\n", ours),
-            (ours + b">From x<ann@mysite> y<z>\nFrom\tz\n", ours + b">From mysite_!x_ann y_z_\n>From z \n"), (b"From president" + date, ours + b">From president" + date),
-            (b"From duke!x<ann@mysite> Nov 28 1:00\n", b"From duke!mysite_!x_ann Nov 28 1:00\n"), (b"From duke!x<ann@mysite> Nov 28 1:00 remote from unc\n", ours + b">From duke!mysite_!x_ann Nov 28 1:00 remote from unc\n"),
-            (b"From ann@mysite x\n", ours + b">From mysite!ann x\n"), (b">From duke!x<ann@mysite>" + date, ours + b">From duke!mysite_!x_ann" + date), (b"", ours),
+            (ours + b">From x<ann@mysite> y<z>\nFrom\tz\n", ours), (b"From president" + date, ours), (b"From ann@mysite x\n", ours), (b">From duke!x<ann@mysite>" + date, ours), (b"", ours),
+            (b"From duke!x<ann@mysite> Nov 28 1:00\n", b"From duke!mysite_!x_ann Nov 28 1:00\n"), (b"From duke!x<ann@mysite> Nov 28 1:00 remote from unc\n", ours),
+            (b"From duke!x<ann@mysite>" + date + b">From joe x remote from duke\n>From boss y remote from unc\n", b"From duke!unc!boss" + date),
         ):  # fmt: skip
             self.assertEqual(plain + b"\nhello\n", self.plain(written + b"\nhello\n", "duke!x<ann@mysite>"), written)
 

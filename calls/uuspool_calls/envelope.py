@@ -53,12 +53,11 @@ def signed(job: Delivered, own: str, folder: str) -> Iterator[int]:
     if not job.sender:
         # (No other site had it before, and a mailer may take the user of the last line.)
         lines = [it for it in lines[:1] if it.startswith(f"From {user} ") and _is_signed(it, own)]
+    path = _path_behind(user, site, lines)
     if lines and _is_signed(lines[0], site):
-        user, rest = _parted(lines[0])
-        line = _dated(f"From {_path(user, lines[1:])} {rest}", job.moment)
+        line = _dated(f"From {path} {_parted(lines[0])[1]}", job.moment)
     else:
-        # (Another UUCP may give the mail of all to `uucp`. Otherwise the job's user is better known than older lines.)
-        line = _line(job.moment, _path(user, lines) if user == _NOBODY else user, site)
+        line = _line(job.moment, path, site)
     if _text([line]) == os.pread(job.content, length, 0):
         yield job.content
         return
@@ -75,7 +74,8 @@ def handed_on(job: Delivered, own: str, folder: str) -> contextlib.AbstractConte
 
 def make_plain(content: int, job: Job, own: str, folder: str) -> None:
     """Makes the lines plain in the open file of mail that goes to a system which believes them as they are. A neighbour's mail may have been
-    handed on or moved without a delivery here, so it begins with a line of its user. A mailer's own lines keep plain addresses."""
+    handed on or moved without a delivery here, so it gets one line of its user, with the whole path: Exim there takes the next one for the
+    end of the headers. A mailer's own lines keep plain addresses."""
     lines, length = _lines_of(content, plain_user if job.sender else _plain_address)
     user, moment = plain_user(job.user) or _NOBODY, f"{job.day} {job.hour}"
     is_envelope = bool(lines) and os.pread(content, 1, 0) != b">"
@@ -83,6 +83,9 @@ def make_plain(content: int, job: Job, own: str, folder: str) -> None:
         lines[0] = _dated(lines[0], moment)
     elif job.sender or lines:
         lines.insert(0, _line(moment, user, own))
+    if job.sender:
+        its = plain_user(job.user.removeprefix(f"{job.sender}!")) or _NOBODY
+        lines = [f"From {job.sender}!{_path_behind(its, job.sender, lines[1:])} {_parted(lines[0])[1]}"]
     if _text(lines) != os.pread(content, length, 0):
         with _rewritten(lines, length, content, folder) as whole:
             os.ftruncate(content, 0)
@@ -123,6 +126,14 @@ def _lines_of(content: int, plain: Callable[[str], str] = plain_user) -> tuple[l
 def _plain_line(line: str, plain: Callable[[str], str]) -> str:
     user, _, rest = line.removeprefix(">")[len("From ") :].partition(" ")
     return f"From {plain(user)} {_plain(rest, _OF_LINES)}"
+
+
+def _path_behind(user: str, site: str, lines: Sequence[str]) -> str:
+    """The path to the sender of mail behind the system from which it came, which may have written the first of these lines. (Another UUCP may
+    give the mail of all to `uucp`. Otherwise the job's user is better known than older lines.)"""
+    if lines and _is_signed(lines[0], site):
+        return _path(_parted(lines[0])[0], lines[1:])
+    return _path(user, lines) if user == _NOBODY else user
 
 
 def _path(user: str, older: Sequence[str]) -> str:
