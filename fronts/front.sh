@@ -28,7 +28,9 @@ only_members='members of the group uuspool may do this, from their next login on
 newline='
 '
 if [ -z "${UUSPOOL_DIR-}" ] && [ -d "$common" ] && ! [ -O "$common" ] && ! [ -O uuspool.toml ] && ! [ -O / ]; then
-    member=yes spool=ask_by_sudo by_sudo="env -C / setsid -w sudo -n -u $(stat -L -c %U "$common") -- $lib/for-user"
+    its_owner=$(stat -L -c %U "$common")
+    member=yes spool=ask_by_sudo by_sudo="env -C / setsid -w sudo -n -u $its_owner -- $lib/for-user"
+    [ "$its_owner" != root ] || spool=ask_nobody
 fi
 
 # If not all pieces of a file are queued, none of them stays. Each names $its_pieces. If a shell can't go on, for
@@ -168,6 +170,12 @@ print() {
 # Runs a line by sudo, with no input but that of a job.
 ask_by_sudo() {
     if [ -n "$has_input" ]; then $by_sudo "$@"; else $by_sudo "$@" </dev/null; fi
+}
+
+# A spool that root just put there without its owner is no reason to return the mail of a mailer, which isn't its owner then.
+ask_nobody() {
+    printf '%s\n' "uuspool: $common belongs to root: chown -R gives it to the user of the spool" >&2
+    return "$later"
 }
 
 # Prints what a member's line prints, each line as it comes, and ends as that does. (sudo's own status is 1.)
