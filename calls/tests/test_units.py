@@ -49,6 +49,12 @@ class Units(unittest.TestCase):
             with open(f"{TOP}/examples/{name}", encoding="utf-8") as file:
                 self.assertEqual([], re.findall("(?m)^(?:ProtectHome|ProtectSystem=strict).*", file.read()), name)
 
+    def test_a_backup_notes_itself_in_the_log(self) -> None:
+        """Without that line all jobs of the copy come again. The package's log is in a folder of its own."""
+        with open(f"{TOP}/examples/uuspool-backup.service", encoding="utf-8") as unit, open(f"{TOP}/packaging/postinst", encoding="utf-8") as script:
+            (logs,) = re.findall(r"(?m)^spool=.* logs=(\S+)", script.read())
+            self.assertIn(f"-{logs}", re.findall("(?m)^ReadWritePaths=(.*)$", unit.read())[0].split())
+
     def test_a_stop_is_no_failure(self) -> None:
         def stopped(session: object, words: object) -> int:
             raise Stopped
