@@ -23,7 +23,7 @@ class Errand(NamedTuple):
 
     program: str  # uux or uucp
     words: tuple[str, ...]
-    waits: re.Pattern[str]  # how uustat lists it
+    waits: re.Pattern[str]  # how uustat lists it; the first group, if there is one, is its name in the log
     queued: re.Pattern[str]  # how the log says that it was queued; the first group is its name there
 
     @staticmethod
@@ -40,6 +40,11 @@ class Errand(NamedTuple):
         if len(job.words) == 2 and job.kind == "request":
             return _request(job)
         raise Refusal(f"Taylor UUCP has no job of the kind {job.kind}")
+
+    def name_in(self, what: str) -> str:
+        """The name that the log has of a job that uustat lists so, or nothing if that doesn't say it."""
+        match = self.waits.match(what)
+        return match[1] if match and self.waits.groups else ""
 
 
 def plain(job: Job) -> tuple[Job, Wishes]:
@@ -87,7 +92,7 @@ def _sending(job: Job, path: str, notify: str) -> Errand:
     letter = [f"-n{notify}"] if notify else []
     line = ("-r", "-j", "-C", f"-g{job.grade}", *letter, "--", path, f"{job.system}!{to}")
     here, there = re.escape(path), re.escape(to)
-    waits, queued = rf"Sending {here} \({job.size} bytes\) to {there}\Z", rf"Queuing send of ({here}) to {there}\Z"
+    waits, queued = rf"Sending ({here}) \({job.size} bytes\) to {there}\Z", rf"Queuing send of ({here}) to {there}\Z"
     return Errand("uucp", line, re.compile(waits), re.compile(queued))
 
 
@@ -99,7 +104,7 @@ def _request(job: Job) -> Errand:
         raise Refusal(f"one file is fetched at a time, and {origin} may be several")
     line = ("-r", "-j", f"-g{job.grade}", "--", f"{job.system}!{origin}", to)
     there, end = re.escape(origin), re.escape(to.removeprefix("~"))
-    waits, queued = rf"Requesting {there} to \S*{end}\Z", rf"Queuing request of ({there} to \S*{end})\Z"
+    waits, queued = rf"Requesting ({there} to \S*{end})\Z", rf"Queuing request of ({there} to \S*{end})\Z"
     return Errand("uucp", line, re.compile(waits), re.compile(queued))
 
 
