@@ -80,7 +80,7 @@ class TaylorSpool:
         self.dies()
         return True
 
-    def begin_names(self) -> None:
+    def begin_names(self, moves_on: bool) -> None:
         """Nothing to do."""
 
     def mark(self) -> Mark:

@@ -30,6 +30,7 @@ class Contact(NamedTuple):
     waits: str = ""  # the digest of the bundle that waits in Taylor's spool
     grade: str = ""  # the highest in it
     tried: bool = False  # it was there during a call, so Taylor may have sent a part of it
+    named: str = ""  # in which start of the machine the names of files in Taylor's spool moved on
 
 
 class Contacts:
