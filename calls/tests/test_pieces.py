@@ -964,6 +964,18 @@ class Going(Folder):
             self.queue(bytes(2_500_000))
         self.assertEqual(["0", "1000000"], [it[-4] for it in self.spool.asked])
 
+    def test_a_file_for_which_there_is_no_room_is_not_read(self) -> None:
+        """It may have 8 TiB of nothing."""
+        self.site.settings = self.site.settings._replace(limit=4_000_000)
+        os.makedirs(os.path.dirname(self.site.settings.spool), exist_ok=True)
+        with mock.patch("os.pread", side_effect=AssertionError), self.assertRaisesRegex(Refusal, "which takes 3800000 of a file at most"):
+            self.queue(bytes(4_000_001))
+
+    def test_a_stop_ends_the_reading_of_a_file(self) -> None:
+        with mock.patch.object(self.site.session.processes, "check", side_effect=Stopped), self.assertRaises(Stopped):
+            self.queue(bytes(2_500_000))
+        self.assertEqual([], self.spool.asked)
+
     def test_no_piece_is_queued_without_room_for_all(self) -> None:
         self.site.settings = self.site.settings._replace(limit=4_000_000)
         spool = self.site.settings.spool

@@ -61,14 +61,17 @@ def queue(site: Site, what: Parcelled, content: int, notes: Notes = Notes()) -> 
         line[1], *words = what.words
         _ask(site, what.key, line, words, content)
     else:
-        _queue_pieces(site, what, line, _cut(content, length or SIZE, what), notes)
+        _queue_pieces(site, what, line, content, length or SIZE, notes)
 
 
-def _queue_pieces(site: Site, what: Parcelled, line: Sequence[str], cut: Iterable[tuple[Piece, bytes]], notes: Notes) -> None:
+def _queue_pieces(site: Site, what: Parcelled, line: Sequence[str], content: int, length: int, notes: Notes) -> None:
     """Queues the pieces that don't wait. If the spool had something else under the key before a stop, they are for nothing."""
     waiting = _waiting(site, what)
     has_begun = has_ended = notes.has_ended()
-    for piece, data in cut:
+    if not (has_ended or waiting):
+        # (Before it is read, because a file with holes has any size.)
+        _expect_room(site, what, Piece("0" * 64, os.fstat(content).st_size, length, what.mark, 0, what.words))
+    for piece, data in _cut(content, length, what, site.session.processes.check):
         is_last = piece.at + piece.bytes == piece.size
         if not piece.at and not has_ended:
             _remove(site, [job for its, job in waiting.items() if its.file != piece.file])
@@ -129,12 +132,13 @@ def mark_of(job: str) -> str:
     return "-".join(job.split("!")[1:]).replace(".", "-")
 
 
-def _cut(content: int, length: int, what: Parcelled) -> Iterator[tuple[Piece, bytes]]:
-    """The pieces of an open file, and the bytes of each. (Of one that grows, what it had at the beginning.)"""
+def _cut(content: int, length: int, what: Parcelled, check: Callable[[], None]) -> Iterator[tuple[Piece, bytes]]:
+    """The pieces of an open file, and the bytes of each. (Of one that grows, what it had at the beginning.) A stop ends the reading."""
     size, digest, cut, at = os.fstat(content).st_size, sha256(), sha256(), 0
     while block := os.pread(content, min(1 << 20, size - at), at):
         digest.update(block)
         at += len(block)
+        check()
     for at in range(0, max(1, size), length):
         piece = Piece(digest.hexdigest(), size, length, what.mark, at, what.words)
         data = os.pread(content, piece.bytes, at)
