@@ -80,8 +80,8 @@ class TaylorSpool:
         self.dies()
         return True
 
-    def begin_names(self, moves_on: bool) -> None:
-        """Nothing to do."""
+    def begin_names(self, moves_on: bool) -> bool:
+        return True
 
     def mark(self) -> Mark:
         return Mark(self.file, len(self.log))
