@@ -51,6 +51,7 @@ class TaylorSpool:
         self.number = self.process = self.seconds = 0
         self.came: list[str] = []  # at the neighbour
         self.taken_back: set[str] = set()
+        self.began: set[str] = set()  # jobs of which a call began to send them, and broke
 
     # ---- what Handover asks
 
@@ -132,6 +133,7 @@ class TaylorSpool:
             self.say(f"Sending {it.what} ({it.name}) (5 bytes)")
             if end < 0.15 or end > 0.9:
                 it.is_there = end > 0.9
+                self.began.add(it.what)
                 self.came += [it.what] * it.is_there
                 self.say("ERROR: Line disconnected")
                 break
@@ -173,6 +175,7 @@ class History(Folder):
         self.wanted: set[str] = set()  # jobs that nobody took back
         self.gone: set[str] = set()  # those that a user removed, and a round took back
         self.had_cut: set[str] = set()  # those that were there in a power cut
+        self.loses_log = self.chance.random() < 0.5  # whether logrotate takes away what a round saw
 
     def dies(self) -> None:
         if self.left:
@@ -218,6 +221,13 @@ class History(Folder):
             pass
         self.left = 0
 
+    def take_out(self) -> None:
+        """Somebody takes a job out of Taylor's spool, as `uudemon.day` does."""
+        if self.taylor.jobs:
+            it = self.taylor.jobs.pop(self.chance.choice(sorted(self.taylor.jobs)))
+            self.taylor.taken_back.add(it.what)
+            self.taylor.sync_what_left()
+
     def cut(self) -> None:
         """A power cut, perhaps within a call."""
         if self.chance.random() < 0.5:
@@ -227,13 +237,12 @@ class History(Folder):
         self.taylor.lose_power()
 
     def rotate(self) -> None:
-        """logrotate may take away what a round saw, because it keeps more than that of a day."""
         self.taylor.file += 1
-        if self.chance.random() < 0.5:
+        if self.loses_log:
             self.taylor.begins = max(self.taylor.begins, self.taylor.looked)
 
     def step(self) -> None:
-        steps = self.queue, self.queue, self.round, self.killed_round, self.taylor.call, self.taylor.call, self.taylor.sync_all, self.remove, self.cut, self.rotate
+        steps = self.queue, self.queue, self.round, self.killed_round, self.taylor.call, self.taylor.call, self.taylor.sync_all, self.remove, self.take_out, self.cut, self.rotate
         self.chance.choice(steps)()
 
     def play(self, seed: int) -> None:
@@ -277,7 +286,9 @@ class History(Folder):
         refused = {" ".join(it.split(" ")[8:]) for it in self.refused()}
         for what in sorted(self.wanted):
             count = self.taylor.came.count(what)
-            if count == 0 and what not in refused:
+            # (What somebody took out may count as brought, if a call that broke began to send it, or the log lost when it was handed.)
+            may_count = what in self.taylor.taken_back and (what in self.taylor.began or self.loses_log)
+            if count == 0 and what not in refused and not may_count:
                 self.fail(f"seed {seed}: {what} is lost")
             if what in refused and what not in self.taylor.taken_back:
                 self.fail(f"seed {seed}: {what} is refused, and came {count} times")
