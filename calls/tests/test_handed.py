@@ -40,8 +40,8 @@ class Has:
 class TaylorSpool:
     """Taylor UUCP, and the neighbour behind it. What it wrote since the last sync may be lost in a power cut."""
 
-    def __init__(self, chance: random.Random, dies: Callable[[], None], lives_on: Callable[[], None]) -> None:
-        self.chance, self.dies, self.lives_on = chance, dies, lives_on
+    def __init__(self, chance: random.Random, dies: Callable[[], None]) -> None:
+        self.chance, self.dies = chance, dies
         self.jobs: dict[str, Has] = {}
         self.synced: dict[str, Has] = {}  # what is on the disk
         self.log: list[Line] = []
@@ -102,9 +102,7 @@ class TaylorSpool:
         self.number, self.process = self.number + 1, self.process + 1
         self.jobs[f"duke.N{self.number}"] = Has(what, f"D.{self.number}")
         if self.chance.random() < 0.1:
-            # (Killed before its line, and so alone: if this process died, too, and Taylor sent the job, nobody would know of it.)
-            self.lives_on()
-            return Ended(137, b"", b"")
+            return Ended(137, b"", b"")  # (killed before its line)
         self.say(f"Queuing {what} (D.{self.number})")
         if self.chance.random() < 0.1:
             return Ended(137, b"", b"")
@@ -168,7 +166,7 @@ class History(Folder):
         self.chance = random.Random(seed)
         self.left = 0  # steps of a process until it dies, if that isn't 0
         self.boot = 0
-        self.taylor = TaylorSpool(self.chance, self.dies, self.lives_on)
+        self.taylor = TaylorSpool(self.chance, self.dies)
         self.spool = StandIn([])
         self.site = site(self.folder, self.spool)
         self.number = 0
@@ -182,9 +180,6 @@ class History(Folder):
             self.left -= 1
             if not self.left:
                 raise Killed
-
-    def lives_on(self) -> None:
-        self.left = 0
 
     def queue(self) -> None:
         self.number += 1

@@ -25,6 +25,7 @@ class Errand(NamedTuple):
     words: tuple[str, ...]
     waits: re.Pattern[str]  # how uustat lists it; the first group, if there is one, is its name in the log
     queued: re.Pattern[str]  # how the log says that it was queued; the first group is its name there
+    sent: re.Pattern[str] | None = None  # likewise, that it is sent
 
     @staticmethod
     def of(job: Job, path: str) -> "Errand":
@@ -74,7 +75,8 @@ def _execution(job: Job) -> Errand:
     asker = [f"-a{job.user}"] if _USER.match(job.user) else []
     line = ("-r", "-j", "-z", "-p", f"-g{job.grade}", *asker, "--", f"{job.system}!{command}", *(f"({word})" for word in words))
     waits, queued = rf"Executing {what} \(sending {job.size} bytes\)\Z", rf"Queuing {what} \((D\.\S+)\)\Z"
-    return Errand("uux", line, re.compile(waits), re.compile(queued))
+    sent = rf"Sending {what} \((D\.\S+)\) \({job.size} bytes"
+    return Errand("uux", line, re.compile(waits), re.compile(queued), re.compile(sent))
 
 
 def _path(path: str, system: str) -> str:
@@ -93,7 +95,7 @@ def _sending(job: Job, path: str, notify: str) -> Errand:
     line = ("-r", "-j", "-C", f"-g{job.grade}", *letter, "--", path, f"{job.system}!{to}")
     here, there = re.escape(path), re.escape(to)
     waits, queued = rf"Sending ({here}) \({job.size} bytes\) to {there}\Z", rf"Queuing send of ({here}) to {there}\Z"
-    return Errand("uucp", line, re.compile(waits), re.compile(queued))
+    return Errand("uucp", line, re.compile(waits), re.compile(queued), re.compile(rf"Sending ({here}) \("))
 
 
 def _request(job: Job) -> Errand:
