@@ -81,6 +81,9 @@ class TaylorSpool:
         self.dies()
         return True
 
+    def data_of(self, name: str) -> str:
+        return self.jobs[name].name if name in self.jobs else ""
+
     def begin_names(self, moves_on: bool) -> bool:
         return True
 
