@@ -162,6 +162,13 @@ def _names(job: Job, name: str) -> _Names:
     return _Names(origin, here, f"{here.rstrip('/')}/{origin.rpartition('/')[2]}")
 
 
+def fetched(job: Job, name: str) -> tuple[str, ...]:
+    """Where a file that was fetched may be here: nowhere, unless the job is one of those."""
+    job, _ = plain(job)
+    names = _names(job, name)
+    return (names.inside, names.here) if job.kind == "request" and names.here.startswith("/") else ()
+
+
 def was_queued(said: list[str], name: str) -> bool:
     """Whether the log has the line with which it named a job."""
     return any(text.startswith("Queuing ") and name in text for text in said)

@@ -38,6 +38,13 @@ def sync_folder(folder: str) -> None:
         os.fsync(handle)
 
 
+def sync_file(path: str) -> None:
+    """Writes a file to the disk, and its name. It is no link, and no pipe is waited for."""
+    with opened(path, os.O_RDONLY | os.O_NOFOLLOW | os.O_NONBLOCK) as handle:
+        os.fsync(handle)
+    sync_folder(os.path.dirname(path))
+
+
 def write_all(handle: int, data: bytes) -> None:
     """Writes all bytes, however many a write takes."""
     rest = memoryview(data)
