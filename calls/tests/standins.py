@@ -133,8 +133,7 @@ class StandIn:
         return self.open(moment)
 
     def systems(self, system: str = "") -> str:
-        defined = [it for it in ([system] if system else ["mysite", "duke", "unc", "phs"]) if it not in self.undefined]
-        return "".join(f"system {it}\ntime any\n" for it in defined)
+        return "" if system in self.undefined else f"system {system}\ntime any\n"
 
     def show(self, number: int) -> Parcel | None:
         return self.parcels.get(number)

@@ -8,14 +8,14 @@ from unittest.mock import patch
 
 from uuspool_calls import bundle, call, carriers, check, cli, expire, files, hold, move, night, setup, sysfile, taylor
 from uuspool_calls.carriers import folder, ssh, uucico
-from uuspool_calls.errors import Failure, SpoolError, Stopped
+from uuspool_calls.errors import Failure, Stopped
 from uuspool_calls.jobs import Job
 from uuspool_calls.pieces import COMMAND
 from uuspool_calls.processes import Child, Children, Ended, Processes
 from uuspool_calls.session import user_name
 from uuspool_calls.site import Site, enter
 
-from .standins import Folder, LINE, Quiet, StandIn, parcel, site
+from .standins import LINE, Folder, Quiet, StandIn, parcel, site
 
 FILE = f"{'0' * 64}.3000.1000.m"
 
@@ -597,10 +597,5 @@ class Entering(Folder):
         self.put_program()
         os.mkdir(f"{self.folder}/s")
         self.put("etc/forward", "duke  unc\tphs\nduke other\n")
-        entered, spool = enter(Quiet(self.folder)), StandIn()
-        entered.spool = spool  # type: ignore[assignment]
+        entered = enter(Quiet(self.folder))
         self.assertEqual([["unc", "phs"], []], [entered.onward(it) for it in ("duke", "unc")])
-        spool.undefined = {"phs"}
-        self.assertEqual(["unc"], entered.onward("duke"))
-        with mock.patch.object(spool, "systems", side_effect=SpoolError(3, "uuspool: spool: store")):
-            self.assertEqual(["unc", "phs"], entered.onward("duke"))

@@ -39,6 +39,15 @@ class Taking(Folder):
         self.assertEqual((True, True, 1), (taken.moves_jobs, taken.makes_room, taken.unpacked.unwanted))
         self.assertEqual("the sys file here has to define mysite, this site's own name, and unc", taken.own_fault)
 
+    def test_mail_for_a_system_that_is_not_defined_is_one_of_this_site(self) -> None:
+        """Otherwise each call of the neighbour would fail."""
+        answers = [Unpacked(1, ("NoSystem",)), Unpacked(2, ())]
+        self.spool.undefined = {"unc"}
+        with mock.patch.object(self.spool, "unpack", side_effect=lambda system, onward, text: asked.append(list(onward)) or answers.pop(0)):
+            asked: list[list[str]] = []
+            taken = self.neighbour.take(TEXT)
+        self.assertEqual(([["unc"], []], 2, ""), (asked, taken.unpacked.jobs, taken.own_fault))
+
     def test_what_moves_is_finished_before_the_neighbour_says_what_it_has(self) -> None:
         """Otherwise it would have some pieces of a file, and another one the rest."""
         lines = [LINE.replace("7", str(number), 1).replace(" 5 ", " 1000 ").replace("rmail", f"{FILE} {at} exec rmail") for number, at in ((3, 0), (4, 1000), (5, 2000))]

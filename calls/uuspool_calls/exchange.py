@@ -148,6 +148,8 @@ class Neighbour:
             says = later or bundle.has_line(text, b"has", b"no")  # (or its sender is looked at, before it is answered)
             settled = self._settle(text) if says else Settled((), ())
             unpacked = (Unpacked(0, ()), b"") if later else self._unpack(text, replies and not settled.refused)
+            if "NoSystem" in unpacked[0].refusals and self._leaves_out_undefined():
+                unpacked = self._unpack(text, False)
             taken = Taken(settled, *unpacked, later)
         except SpoolError as error:
             kind = NoBundle if any(f"bundle: {name}" in str(error) for name in _NEVER_TAKEN) else NotTaken
@@ -164,6 +166,14 @@ class Neighbour:
         with self._site.alone():
             finish_begun(self._site, self._name)
             return self._site.spool.settle(self._name, text)
+
+    def _leaves_out_undefined(self) -> bool:
+        """Whether some of the systems to which mail is handed on aren't defined. Mail for these is a job of this site from now on: its delivery
+        refuses it, with a letter."""
+        defined = [it for it in self._onward if self._site.spool.systems(it)]
+        is_less = len(defined) < len(self._onward)
+        self._onward = defined
+        return is_less
 
     def _unpack(self, text: bytes, replies: bool) -> tuple[Unpacked, bytes]:
         """Queues the jobs of a bundle. If it has none, our reply may be made at once."""

@@ -6,7 +6,7 @@ from collections.abc import Iterator, Sequence
 
 from . import files, forward, settings
 from .contacts import Contacts
-from .errors import LATER, NOT_SET_UP, Failure, SpoolError
+from .errors import LATER, NOT_SET_UP, Failure
 from .journal import Journal
 from .processes import Program
 from .session import Session, user_name
@@ -57,17 +57,8 @@ class Site:
         return (files.read_bytes(f"{self.settings.spool}-word", _MOST_OF_A_WORD) or b"").decode(errors="replace").strip()
 
     def onward(self, neighbour: str) -> list[str]:
-        """The systems for which mail from a neighbour is handed on, of those that are defined. (Mail for another one is refused by its delivery
-        here, with a letter.)"""
-        named = forward.read(f"{self.etc}/forward", neighbour).systems
-        if not named:
-            return []
-        try:
-            lines = map(str.split, self.spool.systems().splitlines())
-        except SpoolError:
-            return list(named)
-        defined = {words[1] for words in lines if len(words) == 2 and words[0] == "system"}
-        return [system for system in named if system in defined]
+        """The systems for which mail from a neighbour is handed on."""
+        return list(forward.read(f"{self.etc}/forward", neighbour).systems)
 
     def has_handed(self, neighbour: str) -> bool:
         """Whether notes say that Taylor UUCP may have jobs for a neighbour."""
