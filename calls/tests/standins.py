@@ -2,6 +2,7 @@
 import contextlib
 import os
 import shutil
+import signal
 import tempfile
 import time
 import unittest
@@ -26,13 +27,14 @@ def parcel(line: str = LINE, data: bytes = b"hello") -> Parcel:
     return Parcel.read(line.encode() + b"\n" + data)
 
 
-_PIPE = os.pipe2(os.O_CLOEXEC | os.O_NONBLOCK)  # of all that run nothing
+class Closing(Processes):
+    """What runs programs for one test, and leaves no open file behind for the others."""
 
-
-def close_pipe(processes: Processes) -> None:
-    """Closes what wakes these. (select takes no more than 1,024 open files of all tests.)"""
-    for handle in processes._wake, processes._waker:
-        os.close(handle)
+    def __del__(self) -> None:
+        if (woken := signal.set_wakeup_fd(-1)) != self._waker:
+            signal.set_wakeup_fd(woken)
+        for handle in self._wake, self._waker:
+            os.close(handle)
 
 
 class Folder(unittest.TestCase):
@@ -81,6 +83,7 @@ class Quiet(Session):
     def __init__(self, folder: str, **variables: str) -> None:
         environment = {"PATH": os.environ["PATH"], "UUSPOOL_ETC": f"{folder}/etc", **variables}
         super().__init__("test", environment, f"{folder}/lib/uuspool")
+        self.processes.__class__ = Closing
         self.said: list[str] = []
         self.printed: list[str] = []
 
@@ -187,13 +190,11 @@ class Log(list):  # type: ignore[type-arg]
         self.append(" ".join(map(str, words)))
 
 
-class Mailer(Processes):
+class Mailer(Closing):
     """Programs that all end with one status."""
 
     def __init__(self, status: int = 0) -> None:
         super().__init__()
-        close_pipe(self)
-        self._wake, self._waker = _PIPE
         self.status, self.ran = status, []
 
     def run(self, program, given=b"", joined=False, watch=None):  # type: ignore[no-untyped-def]
@@ -208,7 +209,6 @@ def site(folder: str, spool: StandIn, **variables: str) -> Site:
     with open(f"{folder}/spool.db-word", "w", encoding="ascii") as file:
         file.write("w1\n")
     session = Quiet(folder, **variables)
-    close_pipe(session.processes)
     session.processes = Mailer()
     made = Site(session, Settings("mysite", f"{folder}/uuspool.toml", folder, f"{folder}/spool.db", f"{folder}/log", "UTC0"))
     made.spool, made.log = spool, Log()  # type: ignore[assignment]

@@ -10,12 +10,12 @@ from uuspool_calls import cli, commands, deliver, executions, records, refuse, w
 from uuspool_calls.errors import Delay, Failure, Refusal, SpoolError, Stopped
 from uuspool_calls.files import Lock, memory_file
 from uuspool_calls.jobs import Job
-from uuspool_calls.processes import Child, Children, Processes, Program
+from uuspool_calls.processes import Child, Children, Program
 from uuspool_calls.session import Session
 from uuspool_calls.site import Site
 from uuspool_calls.spool import Spool
 
-from .standins import LINE, Folder, StandIn, parcel, site
+from .standins import LINE, Closing, Folder, StandIn, parcel, site
 
 
 class Commands(Folder):
@@ -288,7 +288,7 @@ class Ends(Folder):
         def work() -> int:
             os.setsid()
             here = site(self.folder, StandIn([parcel(LINE.replace("duke", "mysite"))]))
-            processes = here.session.processes = Processes()
+            processes = here.session.processes = Closing()
             processes.catch_stops()
             here.spool.done = Spool([f"{self.folder}/bin/spool"], self.folder, dict(os.environ), processes).done  # type: ignore[method-assign]
             return cli.run(here.session, deliver.Deliverer(here).run, ["7"])

@@ -4,6 +4,7 @@ import errno
 import os
 import pty
 import re
+import resource
 import signal
 import threading
 import time
@@ -15,7 +16,7 @@ from uuspool_calls.errors import Failure, Stopped
 from uuspool_calls.processes import Child, Children, Processes, Program
 
 from . import standins
-from .standins import Folder
+from .standins import Closing, Folder
 
 _DUMPABLE = 4  # for the kernel: whether this process may be traced by others of its user
 _NEW_MOUNTS = 0x20000  # what is mounted from now on only this process, and what it begins, sees
@@ -39,7 +40,7 @@ def _is_hiding() -> bool:
 class Programs(Folder):
     def run_words(self, *words: str, given: bytes = b"", joined: bool = False, **how: object):  # type: ignore[no-untyped-def]
         program = Program(words, self.folder, dict(os.environ), **how)  # type: ignore[arg-type]
-        return Processes().run(program, given, joined)
+        return Closing().run(program, given, joined)
 
     def sh(self, script: str, **how: object):  # type: ignore[no-untyped-def]
         return self.run_words("sh", "-c", script, **how)
@@ -53,7 +54,7 @@ class Programs(Folder):
         self.assertEqual((126, b"%s: Permission denied\n" % script.encode()), self.run_words(script)[0:3:2])
         os.chmod(script, 0o755)
         self.assertEqual((127, b"%s: Exec format error\n" % script.encode()), self.run_words(script)[0:3:2])
-        self.assertEqual(127, Processes().run(Program(["true"], "/nowhere", dict(os.environ))).status)
+        self.assertEqual(127, Closing().run(Program(["true"], "/nowhere", dict(os.environ))).status)
 
     def test_what_a_program_has(self) -> None:
         """Signals as the system gives them but SIGXFSZ, and no file but its streams. What was ignored before stays so, as by nohup."""
@@ -101,7 +102,7 @@ class Programs(Folder):
 
         script = "head -c 70000; until [ -e seen ]; do sleep 0.1; done; head -c 30000 | tail -c 1"
         program = Program(["timeout", "60", "sh", "-c", script], self.folder, dict(os.environ))
-        ended = Processes().run(program, data, watch=watch)
+        ended = Closing().run(program, data, watch=watch)
         self.assertEqual((100_000, 70_001), (ended.read, len(ended.output)))
         self.assertEqual([0, 200_000], [self.sh(script, given=data).read for script in ("exit 1", "cat; exit 1")])
 
@@ -155,7 +156,7 @@ class Stops(Folder):
         child = os.fork()
         if child == 0:
             try:
-                processes = Processes()
+                processes = Closing()
                 processes.catch_stops()
                 os.write(told, b"x")
                 work(processes)
@@ -195,7 +196,7 @@ class Stops(Folder):
             ("echo $$ >pid; kill -KILL $PPID; sleep 1000", 100, 137), (f"{far}; exit 3", 100, 3), (f"{far}; sleep 1000", 5, 124), (f"{far}; kill -KILL $PPID", 100, 137), (f"{far}; exit 0", 100, 0),
         ):  # fmt: skip
             program = Program(["sh", "-c", script], self.folder, dict(os.environ), limit, leaves_none=True)
-            child = Child(lambda program=program: Processes().run(program).status)
+            child = Child(lambda program=program: Closing().run(program).status)
             self.assertEqual(status, child.wait(), script)
             number = int(self.bytes_of("pid"))
             self.assertEqual(status != 0, not os.path.exists(f"/proc/{number}/exe"), script)
@@ -206,7 +207,7 @@ class Stops(Folder):
     def test_others_are_left(self) -> None:
         def work() -> int:
             other = Child(lambda: time.sleep(100) or 0)
-            Processes().run(Program(["sh", "-c", "sleep 1000 & exit 3"], self.folder, dict(os.environ), 100, leaves_none=True))
+            Closing().run(Program(["sh", "-c", "sleep 1000 & exit 3"], self.folder, dict(os.environ), 100, leaves_none=True))
             left = running._children()
             other.kill()
             return 0 if left == {other.pid} else 1
@@ -232,7 +233,7 @@ class Stops(Folder):
         def work() -> int:
             if not _is_hiding():
                 return 77
-            return Processes().run(Program(["sh", "-c", "exit 3"], "/", dict(os.environ), 100, first=begin_far, leaves_none=True)).status
+            return Closing().run(Program(["sh", "-c", "exit 3"], "/", dict(os.environ), 100, first=begin_far, leaves_none=True)).status
 
         status = Child(work).wait()
         if status == 77:
@@ -328,7 +329,7 @@ class Stops(Folder):
 
 class Side(Folder):
     def test_so_many_at_a_time(self) -> None:
-        processes, most = Processes(), []
+        processes, most = Closing(), []
 
         def work() -> int:
             os.close(os.open(f"{self.folder}/{os.getpid()}", os.O_CREAT))
@@ -345,7 +346,7 @@ class Side(Folder):
         self.assertEqual((7, True), (len(most), 1 <= max(most) <= 3))
 
     def test_a_wait_for_a_place_and_for_an_end(self) -> None:
-        processes = Processes()
+        processes = Closing()
         source, sink = os.pipe()
         with Children(processes, 1) as children:
             self.assertTrue(children.has_place(0))
@@ -369,7 +370,7 @@ class Side(Folder):
             child.wait()
 
     def test_inputs(self) -> None:
-        processes = Processes()
+        processes = Closing()
         source, sink = os.pipe()
         os.write(sink, b"abcdef")
         self.assertEqual(b"abcd", processes.read_input(source, 3, 5))
@@ -387,14 +388,30 @@ class Side(Folder):
 
         thread = threading.Thread(target=reader)
         thread.start()
-        Processes().write_output(sink, data, 10)
+        Closing().write_output(sink, data, 10)
         os.close(sink)
         thread.join()
         self.assertEqual(data, bytes(read))
 
+    def test_many_open_files(self) -> None:
+        """Whoever begins a command may have left more open than select takes."""
+
+        def work() -> int:
+            most = resource.getrlimit(resource.RLIMIT_NOFILE)[1]
+            resource.setrlimit(resource.RLIMIT_NOFILE, (min(most, 4096), most))
+            for _ in range(1100):
+                os.open(os.devnull, os.O_RDONLY)
+            processes, (source, sink) = Closing(), os.pipe()
+            processes.write_output(sink, b"abc", 10)
+            read = processes.read_input(source, 2, 10)
+            ended = processes.run(Program(["cat"], "/", dict(os.environ)), b"x" * 300_000)
+            return 0 if (source > 1023, read, ended.output) == (True, b"abc", b"x" * 300_000) else 1
+
+        self.assertEqual(0, Child(work).wait())
+
     def test_outputs_that_nobody_takes(self) -> None:
         with self.assertRaisesRegex(Failure, "nobody took [0-9]+ of 300000 bytes within 1 seconds"):
-            Processes().write_output(os.pipe()[1], bytes(300_000), 1)
+            Closing().write_output(os.pipe()[1], bytes(300_000), 1)
 
 
 class Files(Folder):
@@ -456,7 +473,7 @@ class Files(Folder):
     def test_many_changes_of_contacts_at_once(self) -> None:
         known = contacts.Contacts(self.folder)
         changes = {"held": True, "called": 7, "same": "x", "left": "y", "grade": "N"}
-        with Children(Processes(), 8) as children:
+        with Children(Closing(), 8) as children:
             for name, value in changes.items():
                 children.start(lambda name=name, value=value: Child(lambda: known.change("duke", **{name: value}) or 0))  # type: ignore[misc]
             children.wait()

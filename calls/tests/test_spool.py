@@ -12,16 +12,16 @@ from uuspool_calls.errors import Failure, SpoolError
 from uuspool_calls.files import Lock, closing
 from uuspool_calls.jobs import Job
 from uuspool_calls.journal import Journal
-from uuspool_calls.processes import Child, Ended, Processes, Program
+from uuspool_calls.processes import Child, Ended, Program
 from uuspool_calls.site import Site
 from uuspool_calls.spool import Due, Queued, Refused, Spool
 
-from .standins import LINE, Folder, StandIn, parcel, site
+from .standins import LINE, Closing, Folder, StandIn, parcel, site
 
 FAILED = Ended(3, b"", b"uuspool: spool: store\nuuspool: cause: no space left\n")
 
 
-class Answers(Processes):
+class Answers(Closing):
     """Answers of the spool, one after the other."""
 
     def __init__(self, *answers: Ended | bytes) -> None:
@@ -60,7 +60,7 @@ class Spools(Folder):
 
     def test_a_spool_for_which_no_process_can_be_begun_has_failed(self) -> None:
         """A stop ends this process afterwards as before."""
-        processes = Processes()
+        processes = Closing()
         spool = Spool(["/uuspool"], self.folder, {}, processes)
         with mock.patch("os.fork", side_effect=BlockingIOError(errno.EAGAIN, "no room")), self.assertRaises(SpoolError) as raised:
             spool.ask_once("done", "--", "duke")
@@ -150,7 +150,7 @@ class Kills(Folder):
         """Others get a lock only once the line has ended."""
         waits = self.put("waits", "#!/bin/sh\necho $$ >new\nmv new begun\nexec sleep 1000\n", 0o755)
         here = site(self.folder, StandIn())
-        here.spool = Spool([waits], self.folder, dict(os.environ), Processes())
+        here.spool = Spool([waits], self.folder, dict(os.environ), Closing())
         child = Child(lambda: work(here) and 1 or 0)
         ends = time.monotonic() + 60
         while not os.path.exists(f"{self.folder}/begun"):

@@ -18,6 +18,7 @@ _STOPS = (signal.SIGHUP, signal.SIGINT, signal.SIGTERM)
 _NOT_FOUND, _NOT_EXECUTABLE = 127, 126
 _MOST_HANDLES = 1 << 20  # of a process, unless root raises fs.nr_open. Whoever runs this may have left some open
 _ADOPTS = 36  # for the kernel: processes below this one whose parents end become its children
+_LONGEST = 86400  # seconds that one wait takes
 _LOOK = 0.5  # seconds after which whoever watches a program looks again
 
 Streams = tuple[int, int, int]  # the open files that are a program's input, output and errors
@@ -201,6 +202,17 @@ class Program(NamedTuple):
         return execute(self.line(), self.folder, self.environment, streams, self.keeps)
 
 
+def wait_until_ready(reads: Iterable[int], writes: Iterable[int] = (), seconds: float | None = None) -> list[int]:
+    """Waits until some of these can be read, or written, or so long, but a day at most. (Whatever their numbers are: select takes
+    none above 1,023.)"""
+    waiting = select.poll()
+    for handles, event in (reads, select.POLLIN), (writes, select.POLLOUT):
+        for handle in handles:
+            waiting.register(handle, event)
+    milliseconds = None if seconds is None else int(min(seconds, _LONGEST) * 1000) + 1
+    return [handle for handle, _ in waiting.poll(milliseconds)]
+
+
 class _Pipe:
     """An output of a program that is read, up to so many bytes."""
 
@@ -280,7 +292,7 @@ class Processes:
 
     def wait_for(self, handles: Sequence[int], seconds: float | None = None) -> list[int]:
         """Waits until some of these can be read, or so long, unless this is stopped."""
-        ready, _, _ = select.select([*handles, self._wake], [], [], seconds)
+        ready = wait_until_ready([*handles, self._wake], seconds=seconds)
         self.check()
         if self._wake in ready:
             os.read(self._wake, _BLOCK)  # (a signal of a child that was just forked)
@@ -331,7 +343,7 @@ class Processes:
                         ends = _end_soon(child, ends)
                 wake = [] if stopped else [self._wake]
                 left = max(0, ends - time.monotonic()) if ends < float("inf") else None
-                ready, _, _ = select.select([*waiting, end, *wake], [], [], min(_LOOK, left or _LOOK) if watch else left)
+                ready = wait_until_ready([*waiting, end, *wake], seconds=min(_LOOK, left or _LOOK) if watch else left)
                 if end in ready:
                     break
                 if watch:
@@ -370,9 +382,9 @@ class Processes:
         while rest:
             if (left := ends - time.monotonic()) <= 0:
                 raise Failure(LATER, f"nobody took {len(rest)} of {len(data)} bytes within {seconds:.0f} seconds")
-            _, ready, _ = select.select([self._wake], [handle], [], left)
+            ready = wait_until_ready([self._wake], [handle], left)
             self.check()
-            if ready:
+            if handle in ready:
                 rest = rest[os.write(handle, rest[: select.PIPE_BUF]) :]
 
 
@@ -428,4 +440,4 @@ class Children:
         while self._running:
             for child, _ in self._running.values():
                 child.terminate()
-            self._note_ended(select.select([*self._running], [], [], 1)[0])
+            self._note_ended(wait_until_ready([*self._running], seconds=1))

@@ -4,14 +4,13 @@ copies what it writes."""
 import codecs
 import contextlib
 import os
-import select
 import signal
 import stat
 from collections.abc import Iterable, Iterator, Sequence
 
 from .errors import Stopped
 from .files import closing
-from .processes import Child, Program, handle_stops, kill_group
+from .processes import Child, Program, handle_stops, kill_group, wait_until_ready
 
 _BLOCK = 65536
 _MOST_OF_A_PIPE = 1 << 20  # bytes, unless root allows more
@@ -120,7 +119,7 @@ def _woken_by_signals() -> Iterator[int]:
 
 def _wait(reads: Iterable[int], writes: Iterable[int], wake: int) -> list[int]:
     """Waits for one of these, or for a signal. Those that can be read."""
-    ready, _, _ = select.select([*reads, wake], list(writes), [])
+    ready = wait_until_ready([*reads, wake], writes)
     if wake in ready:
         os.read(wake, _BLOCK)
     return [it for it in ready if it != wake]
