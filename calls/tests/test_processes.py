@@ -269,7 +269,7 @@ class Stops(Folder):
         def work(processes: Processes) -> None:
             os.kill(os.getpid(), signal.SIGHUP)
             processes.pause(0.1)
-            self.put("went on")
+            self.put("went on", "x")
             processes.pause(100)
 
         self.addCleanup(signal.signal, signal.SIGHUP, signal.signal(signal.SIGHUP, signal.SIG_IGN))
@@ -277,7 +277,7 @@ class Stops(Folder):
         self.assertTrue(os.path.exists(f"{self.folder}/went on"))
 
     def test_what_is_short_ends_by_itself(self) -> None:
-        program = Program(["sh", "-c", "touch begun; sleep 1; echo done >done"], self.folder, dict(os.environ))
+        program = Program(["sh", "-c", "echo >begun; sleep 1; echo done >done"], self.folder, dict(os.environ))
 
         def work(processes: Processes) -> None:
             self.put("status", str(processes.run(program).status))
@@ -320,7 +320,7 @@ class Stops(Folder):
     def wait_for_stop(self, processes: Processes, name: str) -> int:
         processes.begin_as_child()
         try:
-            self.put(f"{name}.begun")
+            self.put(f"{name}.begun", "x")
             processes.pause(100)
         except Stopped:
             self.put(name, "stopped")
