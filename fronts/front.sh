@@ -232,10 +232,7 @@ act_as_owner() {
 
 # Runs a line as the owner, with no input but that of a job. Whatever else the owner runs may write into its pipe, so as-owner ends what
 # prints more than is kept, with the status $too_much. (A process here that copied it might not begin, though the line is carried out.)
-ask_as_owner() (
-    [ -n "$has_input" ] || exec </dev/null
-    exec "$lib/as-owner" -m "$most_printed" "$owner" "$bin/uuspool" "$@"
-)
+ask_as_owner() { "$lib/as-owner" ${has_input:+-i} -m "$most_printed" "$owner" "$bin/uuspool" "$@"; }
 
 # What stands for the program then.
 no_site() {
