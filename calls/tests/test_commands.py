@@ -382,6 +382,15 @@ class Small(Folder):
         hold._hold(here, "duke", ends=True)
         self.assertEqual(([], ["duke   held by uuspool-hold", "duke   released by uuspool-hold"]), (here.contacts.held(), here.log))
 
+    def test_a_check_names_ten_keys(self) -> None:
+        session = Quiet(self.folder)
+        self.put_program()
+        self.put("uuspool.toml", 'name = "a"\n' + "".join(f"k{at} = 1\n" for at in range(13)))
+        self.assertEqual(1, check.run(session, []))
+        self.assertEqual([f"{self.folder}/uuspool.toml: line {at + 2}: the key k{at} means nothing here, and is passed over." for at in range(10)], session.printed[:10])
+        self.assertEqual(f"{self.folder}/uuspool.toml: line 12: from here on more keys mean nothing here, and are passed over.", session.printed[10])
+        self.assertEqual(12, len(session.printed))
+
     def test_what_a_check_finds_without_a_spool(self) -> None:
         session = Quiet(self.folder)
         self.put("bin/uuspool", "#!/bin/sh\necho 'uuspool: cannot read /x' >&2\nexit 5\n", 0o755)
