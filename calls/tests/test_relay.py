@@ -104,11 +104,19 @@ class Relay(Folder):
             self.assertEqual(b"two\n", os.read(reads, 4))
 
     def test_root_says_whether_there_is_input(self) -> None:
-        owner = pwd.getpwuid(os.geteuid()).pw_name
-        for words, both_ways, keeps in ([], False, ()), (["-i"], False, (0,)), (["-im", "5"], False, (0,)), (["-i"], True, ()):
-            with mock.patch.object(relay, "run") as runs, mock.patch.object(relay, "goes_both_ways", return_value=both_ways):
-                asowner.run(Quiet(self.folder), [*words, owner, "true"])
-                self.assertEqual(keeps, runs.call_args[0][1])
+        """Otherwise a read fails."""
+        owner, fails = pwd.getpwuid(os.geteuid()).pw_name, 100
+        script = f"import os, sys\ntry: sys.exit(len(os.read(0, 9)))\nexcept OSError: sys.exit({fails})"
+        path, (ours, theirs), (ours_too, terminal) = self.put("input", "12345"), socket.socketpair(), pty.openpty()
+        ours.send(b"12345")
+        with open(path, "rb") as file, ours, theirs, processes.closing(ours_too), processes.closing(terminal):
+            for words, given, wanted in ([], file.fileno(), fails), (["-i"], file.fileno(), 5), (["-im", "5"], file.fileno(), 5), (["-i"], theirs.fileno(), fails), (["-i"], terminal, fails):
+
+                def begin() -> int:
+                    os.dup2(given, 0)
+                    return asowner.run(Quiet(self.folder), [*words, owner, sys.executable, "-c", script])
+
+                self.assertEqual(wanted, Child(begin).wait(), words)
 
     def test_output_that_nobody_takes(self) -> None:
         full = os.open("/dev/full", os.O_WRONLY)

@@ -2,6 +2,7 @@
 key of root's, and no variable but those of `Session.passed`. With -i it has root's input unless that is a terminal or a socket: whatever
 else this user runs may read that, too, and root's script may be in it. Its output is copied. What prints more than so many bytes is
 ended, as one whose output nobody reads."""
+import os
 from collections.abc import Sequence
 
 from . import options, relay
@@ -22,4 +23,6 @@ def run(session: Session, words: Sequence[str]) -> int:
     if most is not None and not is_number(most):
         raise Failure(USAGE, f"-m {most}: no number of bytes: {_USAGE}")
     program = session.acting(rest[0], Program(rest[1:], "/", session.environment))
-    return relay.run(program, (0,) if "i" in given and not relay.goes_both_ways(0) else (), int(most) if most else None)
+    if "i" not in given or relay.goes_both_ways(0):
+        os.dup2(os.open(os.devnull, os.O_WRONLY), 0)  # (A read fails, so that no empty job is queued.)
+    return relay.run(program, (0,), int(most) if most else None)
