@@ -223,3 +223,23 @@ class Watched(Folder):
                 looks.machine()
             self.assertEqual(has_systemd, "it failed" in looks._session.printed)
             looks._session.printed.clear()
+
+
+class Pages(Folder):
+    """Lines of the pages that root types."""
+
+    def test_the_table_for_postfix_has_other_hosts_alone(self) -> None:
+        with open(f"{TOP}/docs/mailers.md", encoding="utf-8") as file:
+            line = re.findall(r"(?ms)^    own=.*?/etc/postfix/paths$", file.read())[0]
+        hosts = "duke", "phs", "Mysite", "LocalHost", "MAIL", "other", "gw.example", "GW.named", "[^ ]*", ".*", "a|b", "a/b", "a b", "a_b", "unc"
+        self.put("routes", "".join(f"{host}\tduke!%s\n" for host in hosts) + "c\tduke!a${1}!%s\nd\tduke\ne\tduke!unc!E!%s\n")
+        self.put("map-domains", "gw.Named\n")
+        self.put("mailname", "Mail\n")
+        for name, said in ("hostname", "mysite"), ("postconf", "$myhostname, other,hash:/etc/x, localhost"):
+            self.put(f"bin/{name}", f"#!/bin/sh\necho '{said}'\n", 0o755)
+        for path, ours in ("/usr/local/lib/uuspool/as-owner uucp uuspool routes", "cat routes"), ("/etc/postfix/", ""), ("/etc/mailname", "mailname"):
+            self.assertIn(path, line)
+            line = line.replace(path, ours)
+        subprocess.run(["sh", "-c", line], cwd=self.folder, env={"PATH": f"{self.folder}/bin:/usr/bin:/bin"}, check=True)
+        made = [(host, f"${{1}}@duke") for host in ("duke", "phs", "gw\\.named", "a_b", "unc")] + [("e", "unc!E!${1}@duke")]
+        self.assertEqual([f"/^(.*)@{host}$/\t{path}" for host, path in made], self.bytes_of("paths").decode().splitlines())
