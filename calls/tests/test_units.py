@@ -82,19 +82,19 @@ class Purged(Folder):
         """Its status, and what it says."""
         with open(f"{TOP}/packaging/postrm", encoding="utf-8") as file:
             text = re.sub(r"(?<![\w.-])/(?:var|etc|run)/", lambda it: f"{self.folder}{it[0]}", file.read())
-        self.put("bin/getent", "#!/bin/sh\necho uuspool:x:10:10::/var/lib/uuspool:/bin/sh\n", 0o755)
+        self.put("bin/getent", f"#!/bin/sh\necho uuspool:x:10:10::{self.folder}/var/lib/uuspool:/bin/sh\n", 0o755)
         self.put("bin/userdel", "#!/bin/sh\n", 0o755)
         path = self.put("postrm", text, 0o755)
         ran = subprocess.run(["sh", path, "purge"], env={"PATH": f"{self.folder}/bin:/usr/bin:/bin", **variables}, stdout=subprocess.PIPE, stderr=subprocess.STDOUT, text=True, timeout=20)
         return ran.returncode, ran.stdout.replace(f"{self.folder}/", "/")
 
     def test_what_a_purge_leaves(self) -> None:
-        for path in "var/log/uuspool/log", "var/spool/uuspool/spool.db", "etc/uuspool/keys/duke", "var/lib/uuspool-page/index.html":
+        for path in "var/log/uuspool/log", "var/spool/uuspool/spool.db", "etc/uuspool/keys/duke", "var/lib/uuspool-page/index.html", "var/spool/cron/crontabs/uuspool":
             self.put(path)
         self.assertEqual((0, "uuspool: the spool stays in /var/spool/uuspool\n"), self.purge())
         self.assertEqual(["var/spool/uuspool/spool.db"], sorted(os.path.relpath(f"{at}/{it}", self.folder) for at, _, names in os.walk(f"{self.folder}/var") for it in names))
         self.assertEqual((0, ""), self.purge(UUSPOOL_PURGE="yes"))
-        self.assertEqual([], os.listdir(f"{self.folder}/var/spool"))
+        self.assertEqual(["cron"], os.listdir(f"{self.folder}/var/spool"))
 
     def test_what_cannot_be_removed_fails_no_purge(self) -> None:
         for path in "var/log/uuspool/log", "var/spool/uuspool/spool.db", "etc/uuspool/calls/duke":
@@ -241,7 +241,7 @@ class Pages(Folder):
             self.assertIn(path, line)
             line = line.replace(path, ours)
         subprocess.run(["sh", "-c", line], cwd=self.folder, env={"PATH": f"{self.folder}/bin:/usr/bin:/bin"}, check=True)
-        made = [(host, f"${{1}}@duke") for host in ("duke", "phs", "gw\\.named", "a_b", "unc")] + [("e", "unc!E!${1}@duke")]
+        made = [(host, "${1}@duke") for host in ("duke", "phs", "gw\\.named", "a_b", "unc")] + [("e", "unc!E!${1}@duke")]
         self.assertEqual([f"/^(.*)@{host}$/\t{path}" for host, path in made], self.bytes_of("paths").decode().splitlines())
 
     def test_the_jobs_that_are_gone_after_a_copy_are_numbers(self) -> None:
