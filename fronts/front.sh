@@ -19,7 +19,7 @@ trap '' XFSZ
 stops='HUP INT QUIT ALRM TERM USR1 USR2 VTALRM PROF XCPU' # what ends a shell that can still tidy up
 
 # A local user may not enter the spool's folder, so he asks by sudo, which says who he is. Whatever else the owner runs may
-# take a folder, a terminal or an open file from what sudo begins, so that gets none of the user's: in a session of its own
+# take a folder, a terminal, an open file or keys from what sudo begins, so that gets none of the user's: in a session of its own
 # sudo finds no terminal. Lines of root run as the folder's owner (see below).
 spool=$bin/uuspool member='' by_sudo='' as_owner='' common=/var/spool/uuspool site='' why_not=''
 most_printed=16777216 too_much=141 # the bytes that are kept of what the owner's line prints, if root asks, and its status beyond
@@ -29,7 +29,7 @@ newline='
 '
 if [ -z "${UUSPOOL_DIR-}" ] && [ -d "$common" ] && ! [ -O "$common" ] && ! [ -O uuspool.toml ] && ! [ -O / ]; then
     its_owner=$(stat -L -c %U "$common")
-    member=yes spool=ask_by_sudo by_sudo="env -C / setsid -w sudo -n -u $its_owner -- $lib/for-user"
+    member=yes spool=ask_by_sudo by_sudo="env -C / $lib/without-keys setsid -w sudo -n -u $its_owner -- $lib/for-user"
     [ "$its_owner" != root ] || spool=ask_nobody
 fi
 
@@ -232,10 +232,7 @@ act_as_owner() {
 
 # Runs a line as the owner, with no input but that of a job. Whatever else the owner runs may write into its pipe, so as-owner ends what
 # prints more than is kept, with the status $too_much. (A process here that copied it might not begin, though the line is carried out.)
-ask_as_owner() (
-    [ -n "$has_input" ] || exec </dev/null
-    exec "$lib/as-owner" -m "$most_printed" "$owner" "$bin/uuspool" "$@"
-)
+ask_as_owner() { "$lib/as-owner" ${has_input:+-i} -m "$most_printed" "$owner" "$bin/uuspool" "$@"; }
 
 # What stands for the program then.
 no_site() {

@@ -382,6 +382,15 @@ class Small(Folder):
         hold._hold(here, "duke", ends=True)
         self.assertEqual(([], ["duke   held by uuspool-hold", "duke   released by uuspool-hold"]), (here.contacts.held(), here.log))
 
+    def test_a_check_names_ten_keys(self) -> None:
+        session = Quiet(self.folder)
+        self.put_program()
+        self.put("uuspool.toml", 'name = "a"\n' + "".join(f"k{at} = 1\n" for at in range(13)))
+        self.assertEqual(1, check.run(session, []))
+        self.assertEqual([f"{self.folder}/uuspool.toml: line {at + 2}: the key k{at} means nothing here, and is passed over." for at in range(10)], session.printed[:10])
+        self.assertEqual(f"{self.folder}/uuspool.toml: line 12: from here on more keys mean nothing here, and are passed over.", session.printed[10])
+        self.assertEqual(12, len(session.printed))
+
     def test_what_a_check_finds_without_a_spool(self) -> None:
         session = Quiet(self.folder)
         self.put("bin/uuspool", "#!/bin/sh\necho 'uuspool: cannot read /x' >&2\nexit 5\n", 0o755)
@@ -416,7 +425,7 @@ class Small(Folder):
         self.assertEqual(["a?[2Jb?c is held"], session.printed)
 
     def test_what_a_check_finds_of_settings_that_came(self) -> None:
-        paths = [self.put(f"public/{it}") for it in ("uuspool.toml", "a/uuspool.toml", "a/b/x")]
+        paths = [self.put(f"public/{it}") for it in ("uuspool.toml", "a/uuspool.toml", "a/b/c/uuspool.toml", "a/b/x")]
         os.symlink("a", f"{self.folder}/public/link")
         os.makedirs(f"{self.folder}/public/c")
         os.symlink("../a/uuspool.toml", f"{self.folder}/public/c/uuspool.toml")
@@ -424,12 +433,15 @@ class Small(Folder):
         looks = check.Check(session)
         looks._owner = pwd.getpwuid(os.geteuid()).pw_name
         looks._check_settings_below(f"{self.folder}/public")
-        self.assertEqual(paths[:2], sorted((line.partition(":")[0] for line in session.printed), key=len))
+        self.assertEqual(paths[:3], [line.partition(":")[0] for line in session.printed])
         self.assertTrue(all(line.endswith(f" remove it as {looks._owner}.") for line in session.printed), session.printed)
+        with mock.patch.object(check, "_MOST_FOLDERS", 4):  # (the fourth is a/b)
+            looks._check_settings_below(f"{self.folder}/public")
+        self.assertEqual(paths[:2] + [f"{self.folder}/public has 4 folders or more, so not all of them were looked at. What is called uuspool.toml may be in others."], [line.partition(": ")[0] for line in session.printed[3:]])
 
     def test_root_removes_nothing_in_folders_of_others(self) -> None:
         """Who may write such a folder, or has it, may put a link to one of root's in its place."""
-        for name, mode in ("", 0o777), ("written", 0o775), ("theirs", 0o755), ("own", 0o755):
+        for name, mode in ("", 0o777), ("written", 0o775), ("theirs", 0o755), ("own", 0o755), ("theirs/own", 0o755):
             self.put(f"public/{name}/uuspool.toml")
             os.chmod(f"{self.folder}/public/{name}", mode)
         self.give(f"{self.folder}/public/theirs")
@@ -440,7 +452,7 @@ class Small(Folder):
         removed = [line.partition(":")[0] for line in session.printed if "remove" in line]
         self.assertEqual([f"{self.folder}/public/uuspool.toml", f"{self.folder}/public/own/uuspool.toml"], removed)
         left = [line.partition(":")[0] for line in session.printed if "remove" not in line]
-        self.assertEqual([f"{self.folder}/public/theirs", f"{self.folder}/public/written"], left)
+        self.assertEqual([f"{self.folder}/public/{name}" for name in ("theirs", "written", "theirs/own")], left)
 
     def test_what_is_in_the_place_of_a_neighbours_folder(self) -> None:
         session = Quiet(self.folder)

@@ -24,8 +24,8 @@ class Leaving(Folder):
     def found(self) -> list[str]:
         """What is said of the user OWNER, behind what each sentence has first."""
         session = Quiet(self.folder, PATH=f"{self.folder}/bin:{os.environ['PATH']}")
-        schedulers = [leaving.Scheduler(it.name, f"{self.folder}/{it.name}.allow", f"{self.folder}/{it.name}.deny") for it in leaving.SCHEDULERS]
-        its = {"_ALIASES": f"{self.folder}/aliases", "_SCOPE": f"{self.folder}/scope", "SCHEDULERS": schedulers}
+        crontab, at = (leaving.Scheduler(it, *(f"{self.folder}/{it}.{end}" for end in ("allow", "deny", "kept"))) for it in ("crontab", "at"))
+        its = {"_ALIASES": f"{self.folder}/aliases", "_SCOPE": f"{self.folder}/scope", "CRONTAB": crontab, "AT": at}
         with mock.patch.multiple(leaving, **its), mock.patch.object(pwd, "getpwall", return_value=self.accounts):
             said = [*leaving.sentences(session, OWNER)]
         self.assertEqual([], [it for it in said if "a neighbour's command leaves the unit uuspool-night" not in it])
@@ -125,6 +125,27 @@ class Leaving(Folder):
         self.put("crontab.allow", "x\n")
         self.put("at.allow", f"{OWNER}\n")
         self.assertEqual(["take the line OWNER out of at.allow."], self.ends())
+
+    def test_who_may_schedule_by_another_name(self) -> None:
+        self.systemctl("masked")
+        self.accounts += [account("uuspool", "/"), account("ann", "/", 2)]
+        for name in "crontab", "at":
+            self.put(f"bin/{name}", "#!/bin/sh\n", 0o755)
+            self.put(f"{name}.deny", f"{OWNER}\n")
+        self.assertEqual(["add the line uuspool to crontab.deny."], self.ends())
+        self.put("crontab.deny", f"{OWNER} uuspool\n")
+        self.assertEqual([], self.ends())
+
+    def test_what_was_scheduled_before(self) -> None:
+        self.systemctl("masked")
+        self.accounts += [account("uuspool", "/"), account("ann", "/", 2)]
+        for name in "ann", "uuspool", OWNER:
+            self.put(f"crontab.kept/{name}")
+        self.put("at.kept/.SEQ")
+        lines = [f"write root's lines in it into a file of /etc/cron.d, and type crontab -r -u {name}." for name in ("OWNER", "uuspool")]
+        self.assertEqual(lines, self.ends())
+        self.give(self.put("at.kept/a0000101c8c769"))
+        self.assertEqual([*lines, "atq lists them, and atrm removes them."], self.ends())
 
     def test_only_what_a_unit_confines_leaves_one(self) -> None:
         looks = check.Check(Quiet(self.folder))

@@ -22,7 +22,9 @@ from .standins import Folder, Quiet
 SHOWS = 'import os, stat; print(*["terminal" if os.isatty(it) else "pipe" if stat.S_ISFIFO(os.fstat(it).st_mode) else os.path.realpath(f"/proc/self/fd/{it}") for it in (0, 1, 2)], sorted(os.listdir("/proc/self/fd"))[3:-1])'
 
 
-def typed(*words: str, keeps: tuple[int, ...] = (), numbers: tuple[int, ...] = (), output: int | None = None, most: int | None = None) -> tuple[int, str]:
+def typed(
+    *words: str, keeps: tuple[int, ...] = (), numbers: tuple[int, ...] = (), given: int = 0, output: int | None = None, most: int | None = None
+) -> tuple[int, str]:
     """The status of these words that root types at a terminal, and what that shows. After each line root sends a signal. The status
     of an error is its number, and 98 that of a stop."""
     process, terminal = pty.fork()
@@ -32,6 +34,7 @@ def typed(*words: str, keeps: tuple[int, ...] = (), numbers: tuple[int, ...] = (
             for number in signal.SIGHUP, signal.SIGINT, signal.SIGTERM:
                 signal.signal(number, signal.SIG_DFL)  # (what runs the tests in the background may have them ignored)
             os.dup2(0, 7)
+            os.dup2(given, 0)
             if output is not None:
                 os.dup2(output, 1)
             status = relay.run(Program(words, "/", os.environ), keeps, most)
@@ -83,6 +86,37 @@ class Relay(Folder):
             self.assertEqual(bytes(65536), file.read(65536))  # (until then nothing more fits)
             self.assertEqual(0, child.wait())
             self.assertEqual(b"pipe:", file.read()[:5])
+
+    def test_a_file_as_input_has_a_place_of_its_own(self) -> None:
+        script = "import os; print(os.read(0, 4).decode(), end=''); os.lseek(0, 0, 2)"
+        with open(self.put("input", "one\ntwo\nsix\n"), "rb", buffering=0) as file:
+            file.read(4)
+            os.remove(f"{self.folder}/input")
+            self.assertEqual((0, "two\n"), typed(sys.executable, "-c", script, keeps=(0,), given=file.fileno()))
+            self.assertEqual(b"two\n", file.read(4))
+
+    def test_a_pipe_as_input_stays(self) -> None:
+        reads, writes = os.pipe()
+        with processes.closing(reads):
+            with processes.closing(writes):
+                os.write(writes, b"one\ntwo\n")
+            self.assertEqual((0, "one\n"), typed(sys.executable, "-c", "print(__import__('os').read(0, 4).decode(), end='')", keeps=(0,), given=reads))
+            self.assertEqual(b"two\n", os.read(reads, 4))
+
+    def test_root_says_whether_there_is_input(self) -> None:
+        """Otherwise a read fails."""
+        owner, fails = pwd.getpwuid(os.geteuid()).pw_name, 100
+        script = f"import os, sys\ntry: sys.exit(len(os.read(0, 9)))\nexcept OSError: sys.exit({fails})"
+        path, (ours, theirs), (ours_too, terminal) = self.put("input", "12345"), socket.socketpair(), pty.openpty()
+        ours.send(b"12345")
+        with open(path, "rb") as file, ours, theirs, processes.closing(ours_too), processes.closing(terminal):
+            for words, given, wanted in ([], file.fileno(), fails), (["-i"], file.fileno(), 5), (["-im", "5"], file.fileno(), 5), (["-i"], theirs.fileno(), fails), (["-i"], terminal, fails):
+
+                def begin() -> int:
+                    os.dup2(given, 0)
+                    return asowner.run(Quiet(self.folder), [*words, owner, sys.executable, "-c", script])
+
+                self.assertEqual(wanted, Child(begin).wait(), words)
 
     def test_output_that_nobody_takes(self) -> None:
         full = os.open("/dev/full", os.O_WRONLY)

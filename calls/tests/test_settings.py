@@ -1,6 +1,10 @@
 """Finding the site."""
+import re
+import resource
+
 from uuspool_calls import check, cli, page, settings
 from uuspool_calls.errors import LATER, Failure
+from uuspool_calls.processes import Child
 
 from .standins import SITE, Folder, Quiet
 
@@ -47,3 +51,14 @@ class Settings(Folder):
         path = self.put("uuspool.toml", 'name = "a"\n"timezone" = "UTC"\nspool = "spool.db"\n[more]\nx = 1\n')
         self.assertEqual([(2, "timezone"), (4, "more")], settings.unknown_keys(path))
         self.assertEqual([[]] * 2, [settings.unknown_keys(it) for it in (self.put("other", "["), f"{self.folder}/nothing")])
+
+    def test_no_settings_take_much_memory(self) -> None:
+        path = self.put("uuspool.toml", f'name = "a"\n  more = 1\nx = "{"x" * 6000}"\ny.{"a." * 40_000}a = 1\n')
+
+        def look() -> int:
+            with open("/proc/self/status", encoding="ascii") as file:
+                used = 1024 * int(re.findall(r"VmSize:\s+(\d+)", file.read())[0])
+            resource.setrlimit(resource.RLIMIT_AS, (used + (1 << 28), used + (1 << 28)))
+            return int(settings.unknown_keys(path) != [(2, "more"), (3, "x")])
+
+        self.assertEqual(0, Child(look).wait())

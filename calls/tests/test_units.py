@@ -82,19 +82,19 @@ class Purged(Folder):
         """Its status, and what it says."""
         with open(f"{TOP}/packaging/postrm", encoding="utf-8") as file:
             text = re.sub(r"(?<![\w.-])/(?:var|etc|run)/", lambda it: f"{self.folder}{it[0]}", file.read())
-        self.put("bin/getent", "#!/bin/sh\necho uuspool:x:10:10::/var/lib/uuspool:/bin/sh\n", 0o755)
+        self.put("bin/getent", f"#!/bin/sh\necho uuspool:x:10:10::{self.folder}/var/lib/uuspool:/bin/sh\n", 0o755)
         self.put("bin/userdel", "#!/bin/sh\n", 0o755)
         path = self.put("postrm", text, 0o755)
         ran = subprocess.run(["sh", path, "purge"], env={"PATH": f"{self.folder}/bin:/usr/bin:/bin", **variables}, stdout=subprocess.PIPE, stderr=subprocess.STDOUT, text=True, timeout=20)
         return ran.returncode, ran.stdout.replace(f"{self.folder}/", "/")
 
     def test_what_a_purge_leaves(self) -> None:
-        for path in "var/log/uuspool/log", "var/spool/uuspool/spool.db", "etc/uuspool/keys/duke", "var/lib/uuspool-page/index.html":
+        for path in "var/log/uuspool/log", "var/spool/uuspool/spool.db", "etc/uuspool/keys/duke", "var/lib/uuspool-page/index.html", "var/spool/cron/crontabs/uuspool":
             self.put(path)
         self.assertEqual((0, "uuspool: the spool stays in /var/spool/uuspool\n"), self.purge())
         self.assertEqual(["var/spool/uuspool/spool.db"], sorted(os.path.relpath(f"{at}/{it}", self.folder) for at, _, names in os.walk(f"{self.folder}/var") for it in names))
         self.assertEqual((0, ""), self.purge(UUSPOOL_PURGE="yes"))
-        self.assertEqual([], os.listdir(f"{self.folder}/var/spool"))
+        self.assertEqual(["cron"], os.listdir(f"{self.folder}/var/spool"))
 
     def test_what_cannot_be_removed_fails_no_purge(self) -> None:
         for path in "var/log/uuspool/log", "var/spool/uuspool/spool.db", "etc/uuspool/calls/duke":
@@ -223,3 +223,40 @@ class Watched(Folder):
                 looks.machine()
             self.assertEqual(has_systemd, "it failed" in looks._session.printed)
             looks._session.printed.clear()
+
+
+class Pages(Folder):
+    """Lines of the pages that root types."""
+
+    def test_the_table_for_postfix_has_other_hosts_alone(self) -> None:
+        with open(f"{TOP}/docs/mailers.md", encoding="utf-8") as file:
+            line = re.findall(r"(?ms)^    own=.*?/etc/postfix/paths$", file.read())[0]
+        hosts = "duke", "phs", "Mysite", "LocalHost", "MAIL", "other", "gw.example", "GW.named", "[^ ]*", ".*", "a|b", "a/b", "a b", "a_b", "unc"
+        self.put("routes", "".join(f"{host}\tduke!%s\n" for host in hosts) + "c\tduke!a${1}!%s\nd\tduke\ne\tduke!unc!E!%s\n")
+        self.put("map-domains", "gw.Named\n")
+        self.put("mailname", "Mail\n")
+        for name, said in ("hostname", "mysite"), ("postconf", "$myhostname, other,hash:/etc/x, localhost"):
+            self.put(f"bin/{name}", f"#!/bin/sh\necho '{said}'\n", 0o755)
+        for path, ours in ("/usr/local/lib/uuspool/as-owner uucp uuspool routes", "cat routes"), ("/etc/postfix/", ""), ("/etc/mailname", "mailname"):
+            self.assertIn(path, line)
+            line = line.replace(path, ours)
+        subprocess.run(["sh", "-c", line], cwd=self.folder, env={"PATH": f"{self.folder}/bin:/usr/bin:/bin"}, check=True)
+        made = [(host, "${1}@duke") for host in ("duke", "phs", "gw\\.named", "a_b", "unc")] + [("e", "unc!E!${1}@duke")]
+        self.assertEqual([f"/^(.*)@{host}$/\t{path}" for host, path in made], self.bytes_of("paths").decode().splitlines())
+
+    def test_the_jobs_that_are_gone_after_a_copy_are_numbers(self) -> None:
+        """The spool's user writes the log, and no word of it is an option of root's."""
+        with open(f"{TOP}/docs/backup.md", encoding="utf-8") as file:
+            lines = re.findall(r"(?m)^    mysite# (gone=.*|.*\$gone.*)$", file.read())
+        copy, script = "/var/backups/uuspool/mysite.20261128T154726Z", "\n".join(lines).replace("/usr/local/lib/uuspool/as-owner uucp ", "")
+        self.assertEqual((2, True), (len(lines), copy in script))
+        self.put("copy/spool/copied", "0a 1 2\n")
+        self.put("folder/secret", "root's\n")
+        self.put("bin/uuspool-log", f"#!/bin/sh\ncat {self.folder}/log\n", 0o755)
+        self.put("bin/uuspool", f'#!/bin/sh\ncase $1 in list) seq -f "%.0f duke ann N" 6 9 ;; *) echo "$3" >>{self.folder}/killed ;; esac\n', 0o755)
+        for numbers, wanted in (["-rvf/dev/null"], []), (["8", "-rvf/dev/null", "-", "6"], ["6", "8"]):
+            head = "2026-11-28 12:00:00 - uucp - copied 0a v /copies/a\n"
+            self.put("log", head + "".join(f"2026-11-28 12:00:01 duke ann {number} done kill {number}\n" for number in numbers))
+            self.put("killed")
+            subprocess.run(["sh", "-c", script.replace(copy, f"{self.folder}/copy")], cwd=f"{self.folder}/folder", env={"PATH": f"{self.folder}/bin:/usr/bin:/bin"}, check=False)
+            self.assertEqual(wanted, self.bytes_of("killed").decode().split())

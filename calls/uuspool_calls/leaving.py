@@ -21,11 +21,12 @@ _READ_AT_HOME = ".ssh", ".ssh/authorized_keys", ".ssh/rc", ".forward", ".profile
 
 
 class Scheduler(NamedTuple):
-    """A program by which users have something run later, and the files that say who may use it."""
+    """A program by which users have something run later, the files that say who may use it, and the folder of what it has."""
 
     name: str
     allow: str
     deny: str
+    kept: str
 
     def cure(self, user: str) -> str:
         """What keeps a user from it, or nothing if that is so already. (Without the second file Debian's `at` is root's, and
@@ -38,7 +39,8 @@ class Scheduler(NamedTuple):
         return f"add the line {user} to {self.deny}" if denied is not None and user not in _lines(denied) else ""
 
 
-SCHEDULERS = Scheduler("crontab", "/etc/cron.allow", "/etc/cron.deny"), Scheduler("at", "/etc/at.allow", "/etc/at.deny")
+CRONTAB = Scheduler("crontab", "/etc/cron.allow", "/etc/cron.deny", "/var/spool/cron/crontabs")
+AT = Scheduler("at", "/etc/at.allow", "/etc/at.deny", "/var/spool/cron/atjobs")
 
 
 def sentences(session: Session, owner: str) -> Iterator[str]:
@@ -47,9 +49,7 @@ def sentences(session: Session, owner: str) -> Iterator[str]:
     with acting_as(owner):
         found = [*_of_homes(owner), *_of_aliases(owner)]
     yield from found
-    for scheduler in SCHEDULERS:
-        if session.finds(scheduler.name) and (cure := scheduler.cure(owner)):
-            yield f"{owner} may use {scheduler.name}, and {_LEAVES}: {cure}."
+    yield from _of_schedulers(session, owner)
     if (files.read_bytes(_SCOPE) or b"0").strip() == b"0":
         yield f"Each process of {owner} may enter another one, such as one that sshd, cron or root began, and {_LEAVES}: {_cure_of_entries()}."
 
@@ -75,12 +75,31 @@ def _asked(session: Session, word: str, unit: str) -> str:
     return ended.output.decode(errors="replace").strip()
 
 
+def _accounts(owner: str) -> list[pwd.struct_passwd]:
+    """The accounts that are this user: those of neighbours, too."""
+    number = pwd.getpwnam(owner).pw_uid
+    return [entry for entry in pwd.getpwall() if entry.pw_uid == number]
+
+
+def _of_schedulers(session: Session, owner: str) -> Iterator[str]:
+    """Who may use them, and what they have already. (`crontab -u` takes each name of the caller's number, and `at` the first one.)"""
+    names = dict.fromkeys([owner, *(entry.pw_name for entry in _accounts(owner))])
+    for scheduler, name in [*((CRONTAB, name) for name in names), (AT, owner)]:
+        if session.finds(scheduler.name) and (cure := scheduler.cure(name)):
+            yield f"{name} may use {scheduler.name}, and {_LEAVES}: {cure}."
+    for name in names:
+        if files.look(path := f"{CRONTAB.kept}/{name}"):
+            yield f"cron does what {path} says, and {_LEAVES}: write root's lines in it into a file of /etc/cron.d, and type crontab -r -u {name}."
+    found = [files.look(f"{AT.kept}/{name}", follows=False) for name in files.names_in(AT.kept)]
+    if any(seen and user_name(seen.st_uid) == owner for seen in found):
+        yield f"Jobs of at are {owner}'s, and {_LEAVES}: atq lists them, and atrm removes them."
+
+
 def _of_homes(owner: str) -> Iterator[str]:
     """The homes of the accounts that are this user."""
-    number = pwd.getpwnam(owner).pw_uid
-    for entry in pwd.getpwall():
+    for entry in _accounts(owner):
         home = os.path.normpath(entry.pw_dir)
-        if entry.pw_uid != number or not home.startswith("/"):
+        if not home.startswith("/"):
             continue
         name, reads = entry.pw_name, f"sshd, mailers and logins read files in {home}, the home of the account {entry.pw_name}"
         if (place := _first_writable([home])) and name != _CALLED:

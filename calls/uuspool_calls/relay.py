@@ -77,10 +77,11 @@ class _Stops:
 
 
 def run(program: Program, keeps: Sequence[int] = (), most: int | None = None) -> int:
-    """The status of a program. It gets these streams as they are, no other input, and pipes for its output, of each of which so many
-    bytes are copied. If it ended well, but its output couldn't be written, that is an error as if it had found that itself."""
+    """The status of a program. It gets these streams as they are (a file as input is opened anew), no other input, and pipes for its
+    output, of each of which so many bytes are copied. If it ended well, but its output couldn't be written, that is an error as if it
+    had found that itself."""
     outputs: list[_Output] = []
-    streams = [0 if 0 in keeps else os.open(os.devnull, os.O_RDONLY | os.O_CLOEXEC)]
+    streams = [_input() if 0 in keeps else os.open(os.devnull, os.O_RDONLY | os.O_CLOEXEC)]
     with _woken_by_signals() as wake:
         for handle in 1, 2:
             streams.append(handle if handle in keeps else _output_of(handle, outputs, wake, most).end)
@@ -96,6 +97,16 @@ def run(program: Program, keeps: Sequence[int] = (), most: int | None = None) ->
         if output.fault and not status:
             raise output.fault
     return status
+
+
+def _input() -> int:
+    """This process's input. A file has a place of its own: by root's, root's shell may have its script from there, and would go on
+    wherever another user moves that."""
+    if not stat.S_ISREG(os.fstat(0).st_mode):
+        return 0
+    handle = os.open("/proc/self/fd/0", os.O_RDONLY | os.O_CLOEXEC)
+    os.lseek(handle, os.lseek(0, 0, os.SEEK_CUR), os.SEEK_SET)
+    return handle
 
 
 def goes_both_ways(handle: int) -> bool:

@@ -11,7 +11,7 @@ from .texts import one_line
 from .values import NamedTuple
 
 _KNOWN = {"spool", "zone", "offset", "name", "admins", "seals", "limit"}
-_MOST = 1 << 20  # bytes that are looked at
+_MOST = 1 << 13  # bytes that are looked at: what reads them takes time and memory with the square of these
 _ENDS_WITHOUT = (2, 5, 126, 127)  # statuses: the settings are wrong, or can't be read, or the program can't be run
 
 
@@ -80,6 +80,8 @@ def unknown_keys(path: str) -> list[tuple[int, str]]:
     import tomllib  # (takes long to load, and no mailer waits for this)
 
     text = (files.read_bytes(path, _MOST) or b"").decode(errors="replace")
+    if len(text) >= _MOST:
+        text = text[: text.rfind("\n") + 1]
     with contextlib.suppress(ValueError, RecursionError):
         return sorted((_line_of(key, text), key) for key in tomllib.loads(text) if key not in _KNOWN)
     return []
@@ -89,5 +91,5 @@ def _line_of(key: str, text: str) -> int:
     """The line that begins with a key, or a table of its name."""
     import re
 
-    head = re.compile(rf"""\s*\[*\s*["']?{re.escape(key)}["']?\s*[\].=]""")
-    return next((at for at, line in enumerate(text.split("\n"), 1) if head.match(line)), 0)
+    head = re.compile(rf"""\[*\s*["']?{re.escape(key)}["']?\s*[\].=]""")
+    return next((at for at, line in enumerate(text.split("\n"), 1) if head.match(line.lstrip())), 0)
