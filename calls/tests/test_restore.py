@@ -1,5 +1,6 @@
 """What the log says of jobs, where a copy is put back, and what is done with a job that a neighbour had before."""
 import collections
+import contextlib
 import fcntl
 import gzip
 import json
@@ -643,9 +644,15 @@ class Places(Folder):
         target.sync()
         return target
 
+    def exchange(self, its: place.Place) -> str:
+        made = self.made(its)
+        before = its.exchange()
+        its.put_aside(made, "spool.db")
+        return before
+
     def test_the_folders_are_exchanged(self) -> None:
         with place.Place(self.path, "", "spool.db") as its:
-            before = its.exchange(self.made(its), "spool.db")
+            before = self.exchange(its)
         self.assertEqual((b"after", ["spool.db"]), (self.bytes_of("site/spool.db"), os.listdir(self.path)))
         self.assertEqual(["refused", "spool.db.aside"], sorted(os.listdir(before)))
         self.assertEqual(0o700, stat.S_IMODE(os.stat(os.path.dirname(before)).st_mode))
@@ -655,7 +662,7 @@ class Places(Folder):
         with mock.patch("uuspool_calls.clock.now", return_value=1_800_000_000):
             for _ in range(2):
                 with place.Place(self.path, "", "spool.db") as its:
-                    its.exchange(self.made(its), "spool.db")
+                    self.exchange(its)
         self.assertEqual(2, sum(".before." in it for it in os.listdir(self.folder)))
 
     def test_what_fails_leaves_nothing(self) -> None:
@@ -667,7 +674,7 @@ class Places(Folder):
     def test_a_file_system_that_cannot_exchange(self) -> None:
         with mock.patch.object(kernel, "exchange", side_effect=OSError(22, "Invalid argument")), self.assertRaisesRegex(Failure, "no other folder can take the place of .*: put the copy back by hand"):
             with place.Place(self.path, "", "spool.db") as its:
-                its.exchange(self.made(its), "spool.db")
+                self.exchange(its)
         self.assertEqual((["after", "site"], b"before"), (sorted(os.listdir(self.folder)), self.bytes_of("site/spool.db")))
 
     def test_what_a_killed_run_left_is_removed_unless_it_goes_on(self) -> None:
@@ -731,9 +738,30 @@ class Places(Folder):
         os.remove(f"{self.path}/spool.db")
         os.symlink(self.put("roots", "root's"), f"{self.path}/spool.db")
         with place.Place(self.path, "", "spool.db") as its:
-            before = its.exchange(self.made(its), "spool.db")
+            before = self.exchange(its)
         self.assertTrue(os.path.islink(f"{before}/spool.db.aside"))
         self.assertEqual(b"root's", self.bytes_of("roots"))
+
+
+    def test_a_step_behind_the_exchange_that_fails(self) -> None:
+        """The copy is put back then, and what follows is done."""
+        self.put("site/spool.db-lock")
+        step, full = kernel.exchange, OSError(28, "No space left on device")
+        for name in "rename", "fsync", "unlink":
+            with self.subTest(name), contextlib.ExitStack() as stack:
+                its = stack.enter_context(place.Place(self.path, "", "spool.db"))
+                restoration = restore.Restoration(Quiet(self.folder), mock.Mock(), "", its, mock.Mock())
+                restoration._source.name = "spool.db"
+
+                def exchange(*words: object) -> None:
+                    step(*words)  # type: ignore[arg-type]
+                    stack.enter_context(mock.patch.object(os, name, side_effect=full))
+
+                made = self.made(its)
+                with mock.patch.object(kernel, "exchange", exchange):
+                    before = restoration._exchange(made)
+                why = f"the copy is put back, but a step behind that failed in {before}, where the spool that was there is (No space left on device): run this again"
+                self.assertEqual(([why], b"after"), (restoration.faults, self.bytes_of("site/spool.db")))
 
 
 class Sources(Folder):

@@ -416,9 +416,13 @@ class Restoration:
         moved = self._files()
         for name in moved:
             os.link(name, name, src_dir_fd=self._place.handle, dst_dir_fd=made.handle, follow_symlinks=False)
-        path = self._place.exchange(made, self._source.name)
-        for name in moved:
-            os.unlink(name, dir_fd=self._place.handle)
+        path = self._place.exchange()
+        try:
+            self._place.put_aside(made, self._source.name)
+            for name in moved:
+                os.unlink(name, dir_fd=self._place.handle)
+        except OSError as error:
+            self.faults.append(f"the copy is put back, but a step behind that failed in {path}, where the spool that was there is ({error.strerror}): run this again")
         return path
 
     # ---- what is told
