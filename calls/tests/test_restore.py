@@ -881,6 +881,39 @@ class Numbers(Folder):
         self.assertEqual((["duke", "unc"], []), (found, its.faults))
 
 
+class Told(Folder):
+    def test_a_file_in_pieces_is_one_line(self) -> None:
+        def piece(number: int, at: int, user: str = "ann") -> Job:
+            return Job.read(f"{number} duke {user} N {DAY} 10:00:00 3 exec {COMMAND} {'0a' * 32}.9.3.m {at} send /x ~/x")
+
+        done, killed, lost = logged.Line("m1", "settle"), logged.Line("m2", "kill"), [logged.Anew(number, ("--", "phs")) for number in (21, 22)]
+        gone = [restore.Gone(piece(1, 0), done, None), restore.Gone(piece(2, 3), done._replace(moment="m3"), None), restore.Gone(piece(3, 6), killed, None)]
+        gone += [restore.Gone(piece(4 + at, 3 * at, "joe"), done, it) for at, it in enumerate(lost)]
+        said = [
+            "done before (settle, m1): job 1 for duke of ann: send /x ~/x (2 of 3 pieces)",
+            "done before (kill, m2): job 3 for duke of ann: send /x ~/x (1 of 3 pieces)",
+        ]
+        again = " since job 21 is lost: job 4 for duke of joe: send /x ~/x (2 of 3 pieces)"
+        self.assertEqual([*said, f"queued anew for phs as job 31,{again}"], restore._by_files(restore._fates(gone, {4: 31, 5: 32})))
+        self.assertEqual([*said, f"waits again,{again}"], restore._by_files(restore._fates(gone, {})))
+        others = [("not in the copy", "", Job.read(LINE.replace("7", number, 1))) for number in ("7", "8")]
+        self.assertEqual([f"not in the copy: job {number} for duke of ann: exec rmail joe" for number in (7, 8)], restore._by_files(others))
+
+    def test_a_spool_that_cannot_be_read(self) -> None:
+        said = "the spool that was there can't be read (%s), so nobody knows which of its jobs aren't in the copy"
+        self.put("spool.db-word", "w1")
+        missing, known = OSError(2, "No such file or directory"), restore.Known(7, [])
+        for database, found, why in ([missing], known, missing.strerror), (None, restore.Known(0, []), "uuspool failed"), (None, known, ""):
+            its_turn, stack, session = mock.Mock(), contextlib.ExitStack(), Quiet(self.folder)
+            its_turn.database = mock.Mock(side_effect=database, return_value=contextlib.nullcontext(1))
+            its = restore.Restoration(session, mock.Mock(), "", mock.Mock(), mock.Mock(word="w1"))
+            its._source.name = "spool.db"
+            with files.opened(self.folder) as its._place.handle, mock.patch.object(its, "_known", return_value=found):
+                self.assertEqual(restore.Known(0 if why else 7, []), its._present(mock.Mock(), its_turn, stack))
+            its._tell([], {}, 9, "/before")
+            self.assertEqual([said % why] if why else [], session.printed[:-2])
+
+
 class Stale(Folder):
     def setUp(self) -> None:
         super().setUp()
