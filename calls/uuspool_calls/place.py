@@ -119,7 +119,7 @@ class Place:
         os.fchmod(self._room.handle, 0o700)
         os.rename(f"{self.name}.restoring", name, src_dir_fd=self._parent, dst_dir_fd=self._parent)
         try:
-            os.fsync(self._room.handle)
+            files.sync(self._room.handle)
             kernel.exchange(self._parent, self.name, self._room.handle, INNER)
         except OSError as error:
             os.rename(name, f"{self.name}.restoring", src_dir_fd=self._parent, dst_dir_fd=self._parent)
@@ -135,7 +135,7 @@ class Place:
             if files.look(spool, self.handle, follows=False):
                 os.rename(spool, f"{spool}{ASIDE}", src_dir_fd=self.handle, dst_dir_fd=self.handle)
         for handle in self.handle, made.handle, self._room.handle, self._parent:
-            os.fsync(handle)
+            files.sync(handle)
 
     def _remove_second_names(self) -> None:
         """A killed run may have left files of the place with a second name in the folder that was there."""
