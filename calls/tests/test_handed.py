@@ -1,5 +1,5 @@
 """Random histories of jobs that are handed to Taylor UUCP: calls that break, kills, power cuts, logs that are rotated, and users who
-change their minds. Nothing is lost, nothing is refused that Taylor has or brought, and only a power cut has a job come twice."""
+remove or move them. Nothing is lost, nothing is refused that Taylor has or brought, and only a power cut has a job come twice."""
 import contextlib
 import os
 import random

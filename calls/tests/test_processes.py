@@ -8,15 +8,17 @@ import resource
 import signal
 import threading
 import time
+from collections.abc import Sequence
 from unittest import mock
 
-from uuspool_calls import contacts, files, kernel, night
+from uuspool_calls import cli, contacts, files, kernel, night
 from uuspool_calls import processes as running
 from uuspool_calls.errors import Failure, Stopped
 from uuspool_calls.processes import Child, Children, Processes, Program
+from uuspool_calls.session import Session
 
 from . import standins
-from .standins import Closing, Folder
+from .standins import Closing, Folder, Quiet
 
 _DUMPABLE = 4  # for the kernel: whether this process may be traced by others of its user
 _NEW_MOUNTS = 0x20000  # what is mounted from now on only this process, and what it begins, sees
@@ -440,6 +442,18 @@ class Files(Folder):
         for name in "x", "y", "w":
             files.forget(f"{self.folder}/{name}")
         self.assertEqual([".z.new"], os.listdir(self.folder))
+
+    def test_what_cannot_be_written_is_named(self) -> None:
+        """The system's own error with an open file has no path."""
+
+        def fails(session: Session, words: Sequence[str]) -> int:
+            with files.opened("/dev/full", os.O_WRONLY) as handle:
+                files.sync(handle) if words else files.write_all(handle, b"x")
+            return 0
+
+        for words, why in ([], "No space left on device"), (["sync"], "Invalid argument"):
+            session = Quiet(self.folder)
+            self.assertEqual((75, [f"/dev/full: {why}"]), (cli.run(session, fails, words), session.said))
 
     def test_fresh(self) -> None:
         for age, minutes, fresh in (0, 1, True), (3700, 60, False), (3500, 60, True), (-86400, 60, False), (0, 0, False):

@@ -1,5 +1,6 @@
 """What the log says of jobs, where a copy is put back, and what is done with a job that a neighbour had before."""
 import collections
+import contextlib
 import fcntl
 import gzip
 import json
@@ -643,9 +644,15 @@ class Places(Folder):
         target.sync()
         return target
 
+    def exchange(self, its: place.Place) -> str:
+        made = self.made(its)
+        before = its.exchange()
+        its.put_aside(made, "spool.db")
+        return before
+
     def test_the_folders_are_exchanged(self) -> None:
         with place.Place(self.path, "", "spool.db") as its:
-            before = its.exchange(self.made(its), "spool.db")
+            before = self.exchange(its)
         self.assertEqual((b"after", ["spool.db"]), (self.bytes_of("site/spool.db"), os.listdir(self.path)))
         self.assertEqual(["refused", "spool.db.aside"], sorted(os.listdir(before)))
         self.assertEqual(0o700, stat.S_IMODE(os.stat(os.path.dirname(before)).st_mode))
@@ -655,7 +662,7 @@ class Places(Folder):
         with mock.patch("uuspool_calls.clock.now", return_value=1_800_000_000):
             for _ in range(2):
                 with place.Place(self.path, "", "spool.db") as its:
-                    its.exchange(self.made(its), "spool.db")
+                    self.exchange(its)
         self.assertEqual(2, sum(".before." in it for it in os.listdir(self.folder)))
 
     def test_what_fails_leaves_nothing(self) -> None:
@@ -667,7 +674,7 @@ class Places(Folder):
     def test_a_file_system_that_cannot_exchange(self) -> None:
         with mock.patch.object(kernel, "exchange", side_effect=OSError(22, "Invalid argument")), self.assertRaisesRegex(Failure, "no other folder can take the place of .*: put the copy back by hand"):
             with place.Place(self.path, "", "spool.db") as its:
-                its.exchange(self.made(its), "spool.db")
+                self.exchange(its)
         self.assertEqual((["after", "site"], b"before"), (sorted(os.listdir(self.folder)), self.bytes_of("site/spool.db")))
 
     def test_what_a_killed_run_left_is_removed_unless_it_goes_on(self) -> None:
@@ -731,9 +738,30 @@ class Places(Folder):
         os.remove(f"{self.path}/spool.db")
         os.symlink(self.put("roots", "root's"), f"{self.path}/spool.db")
         with place.Place(self.path, "", "spool.db") as its:
-            before = its.exchange(self.made(its), "spool.db")
+            before = self.exchange(its)
         self.assertTrue(os.path.islink(f"{before}/spool.db.aside"))
         self.assertEqual(b"root's", self.bytes_of("roots"))
+
+
+    def test_a_step_behind_the_exchange_that_fails(self) -> None:
+        """The copy is put back then, and what follows is done."""
+        self.put("site/spool.db-lock")
+        step, full = kernel.exchange, OSError(28, "No space left on device")
+        for name in "rename", "fsync", "unlink":
+            with self.subTest(name), contextlib.ExitStack() as stack:
+                its = stack.enter_context(place.Place(self.path, "", "spool.db"))
+                restoration = restore.Restoration(Quiet(self.folder), mock.Mock(), "", its, mock.Mock())
+                restoration._source.name = "spool.db"
+
+                def exchange(*words: object) -> None:
+                    step(*words)  # type: ignore[arg-type]
+                    stack.enter_context(mock.patch.object(os, name, side_effect=full))
+
+                made = self.made(its)
+                with mock.patch.object(kernel, "exchange", exchange):
+                    before = restoration._exchange(made)
+                why = f"the copy is put back, but a step behind that failed in {before}, where the spool that was there is (No space left on device): run this again"
+                self.assertEqual(([why], b"after"), (restoration.faults, self.bytes_of("site/spool.db")))
 
 
 class Sources(Folder):
@@ -851,6 +879,39 @@ class Numbers(Folder):
             its._fill(Target(f"{self.folder}/made"), {3, 4, 9})
         found = [it for it in ("duke", "phs", "unc") if os.path.exists(f"{self.folder}/made/taylor/{it}/begun.json")]
         self.assertEqual((["duke", "unc"], []), (found, its.faults))
+
+
+class Told(Folder):
+    def test_a_file_in_pieces_is_one_line(self) -> None:
+        def piece(number: int, at: int, user: str = "ann") -> Job:
+            return Job.read(f"{number} duke {user} N {DAY} 10:00:00 3 exec {COMMAND} {'0a' * 32}.9.3.m {at} send /x ~/x")
+
+        done, killed, lost = logged.Line("m1", "settle"), logged.Line("m2", "kill"), [logged.Anew(number, ("--", "phs")) for number in (21, 22)]
+        gone = [restore.Gone(piece(1, 0), done, None), restore.Gone(piece(2, 3), done._replace(moment="m3"), None), restore.Gone(piece(3, 6), killed, None)]
+        gone += [restore.Gone(piece(4 + at, 3 * at, "joe"), done, it) for at, it in enumerate(lost)]
+        said = [
+            "done before (settle, m1): job 1 for duke of ann: send /x ~/x (2 of 3 pieces)",
+            "done before (kill, m2): job 3 for duke of ann: send /x ~/x (1 of 3 pieces)",
+        ]
+        again = " since job 21 is lost: job 4 for duke of joe: send /x ~/x (2 of 3 pieces)"
+        self.assertEqual([*said, f"queued anew for phs as job 31,{again}"], restore._by_files(restore._fates(gone, {4: 31, 5: 32})))
+        self.assertEqual([*said, f"waits again,{again}"], restore._by_files(restore._fates(gone, {})))
+        others = [("not in the copy", "", Job.read(LINE.replace("7", number, 1))) for number in ("7", "8")]
+        self.assertEqual([f"not in the copy: job {number} for duke of ann: exec rmail joe" for number in (7, 8)], restore._by_files(others))
+
+    def test_a_spool_that_cannot_be_read(self) -> None:
+        said = "the spool that was there can't be read (%s), so nobody knows which of its jobs aren't in the copy"
+        self.put("spool.db-word", "w1")
+        missing, known = OSError(2, "No such file or directory"), restore.Known(7, [])
+        for database, found, why in ([missing], known, missing.strerror), (None, restore.Known(0, []), "uuspool failed"), (None, known, ""):
+            its_turn, stack, session = mock.Mock(), contextlib.ExitStack(), Quiet(self.folder)
+            its_turn.database = mock.Mock(side_effect=database, return_value=contextlib.nullcontext(1))
+            its = restore.Restoration(session, mock.Mock(), "", mock.Mock(), mock.Mock(word="w1"))
+            its._source.name = "spool.db"
+            with files.opened(self.folder) as its._place.handle, mock.patch.object(its, "_known", return_value=found):
+                self.assertEqual(restore.Known(0 if why else 7, []), its._present(mock.Mock(), its_turn, stack))
+            its._tell([], {}, 9, "/before")
+            self.assertEqual([said % why] if why else [], session.printed[:-2])
 
 
 class Stale(Folder):

@@ -261,6 +261,19 @@ class Checked(Folder):
             self.assertFalse(self.check.spool())
         self.assertEqual([f"{self.folder} belongs to user 12345, who has no account: chown -R uucp {self.folder}"], self.said)
 
+    def test_what_deliveries_need(self) -> None:
+        self.check._session.environment["UUSPOOL_PUBLIC"] = f"{self.folder}/public"
+        self.check.deliveries()
+        heads = f"{self.folder}/etc/commands is not there", f"The public folder {self.folder}/public is not there"
+        self.assertEqual([True, True], [line.startswith(head) for line, head in zip(self.said, heads)])
+
+    def test_systems_to_which_mail_goes_on(self) -> None:
+        self.put("etc/forward", "# phs\nduke unc phs @example.org phs\nduke other\nmysite third\nunc *\n")
+        self.check._own, self.check._systems = "mysite", frozenset(["mysite", "duke", "unc"])
+        self.check._check_forward()
+        (line,) = self.said
+        self.assertRegex(line, f"^{self.folder}/etc/forward: mail of duke for phs is refused, because no system phs is defined: add it to {self.folder}/etc/sys, ")
+
     def test_commands_that_run_as_nobody_known(self) -> None:
         self.put("etc/commands", "lp /bin/true user=nosuchuser\nrmail /bin/true limit=x\n")
         self.check.deliveries()

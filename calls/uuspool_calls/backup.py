@@ -101,7 +101,7 @@ class Place:
     def keep(self, name: str) -> None:
         """A copy that is whole gets its name."""
         os.rename(f"{name}{_NEW}", name, src_dir_fd=self.handle, dst_dir_fd=self.handle)
-        os.fsync(self.handle)
+        files.sync(self.handle)
 
     def remove_dead(self) -> None:
         """Removes what killed backups left."""

@@ -65,10 +65,10 @@ class Target:
         for name in os.listdir(self.handle):
             if stat.S_ISREG(os.stat(name, dir_fd=self.handle, follow_symlinks=False).st_mode):
                 with files.opened(name, os.O_RDONLY | os.O_NOFOLLOW | os.O_NONBLOCK, folder=self.handle) as handle:
-                    os.fsync(handle)
+                    files.sync(handle)
         if self.like:
             _make_like(self.handle, self.like)
-        os.fsync(self.handle)
+        files.sync(self.handle)
 
     def remove(self, name: str) -> None:
         """Removes a folder in it."""

@@ -32,24 +32,42 @@ def look(path: str, folder: int | None = None, follows: bool = True) -> os.stat_
     return None
 
 
+@contextlib.contextmanager
+def naming(handle: int) -> Iterator[None]:
+    """An error with an open file says its path, which the system's own doesn't, as on a full disk."""
+    try:
+        yield
+    except OSError as error:
+        with contextlib.suppress(OSError):
+            error.filename = error.filename or os.readlink(f"/proc/self/fd/{handle}")
+        raise
+
+
+def sync(handle: int) -> None:
+    """Writes an open file to the disk, or the names in an open folder."""
+    with naming(handle):
+        os.fsync(handle)
+
+
 def sync_folder(folder: str) -> None:
     """Writes the names in a folder to the disk."""
     with opened(folder, os.O_RDONLY | os.O_DIRECTORY) as handle:
-        os.fsync(handle)
+        sync(handle)
 
 
 def sync_file(path: str) -> None:
     """Writes a file to the disk, and its name. It is no link, and no pipe is waited for."""
     with opened(path, os.O_RDONLY | os.O_NOFOLLOW | os.O_NONBLOCK) as handle:
-        os.fsync(handle)
+        sync(handle)
     sync_folder(os.path.dirname(path))
 
 
 def write_all(handle: int, data: bytes) -> None:
     """Writes all bytes, however many a write takes."""
     rest = memoryview(data)
-    while rest:
-        rest = rest[os.write(handle, rest) :]
+    with naming(handle):
+        while rest:
+            rest = rest[os.write(handle, rest) :]
 
 
 def copy_all(source: int, target: int, place: int = 0) -> None:

@@ -112,26 +112,30 @@ class Place:
         """The path of that folder."""
         return f"{self.parent}/{self.name}.restoring"
 
-    def exchange(self, made: Target, spool: str) -> str:
-        """The made folder takes the place, and the spool in the one that was there gets another name. Where that one is."""
+    def exchange(self) -> str:
+        """The made folder takes the place. Where the one that was there is."""
         assert self._room
         name = self._free_name()
         os.fchmod(self._room.handle, 0o700)
         os.rename(f"{self.name}.restoring", name, src_dir_fd=self._parent, dst_dir_fd=self._parent)
-        os.fsync(self._room.handle)
         try:
+            files.sync(self._room.handle)
             kernel.exchange(self._parent, self.name, self._room.handle, INNER)
         except OSError as error:
             os.rename(name, f"{self.name}.restoring", src_dir_fd=self._parent, dst_dir_fd=self._parent)
             if error.errno in _NEVER:
                 raise Failure(LATER, f"no other folder can take the place of {self.path} ({error.strerror}): {BY_HAND}") from None
             raise
+        return f"{self.parent}/{name}/{INNER}"
+
+    def put_aside(self, made: Target, spool: str) -> None:
+        """Behind that the spool in the folder that was there gets another name, and all is on the disk."""
+        assert self._room
         with acting_as(self._owner):
             if files.look(spool, self.handle, follows=False):
                 os.rename(spool, f"{spool}{ASIDE}", src_dir_fd=self.handle, dst_dir_fd=self.handle)
         for handle in self.handle, made.handle, self._room.handle, self._parent:
-            os.fsync(handle)
-        return f"{self.parent}/{name}/{INNER}"
+            files.sync(handle)
 
     def _remove_second_names(self) -> None:
         """A killed run may have left files of the place with a second name in the folder that was there."""

@@ -11,7 +11,7 @@ import collections
 import contextlib
 import os
 import stat
-from collections.abc import Callable, Collection, Mapping, Sequence
+from collections.abc import Callable, Collection, Iterable, Iterator, Mapping, Sequence
 from types import MappingProxyType
 
 from . import files, logged, options, restored, turn
@@ -102,6 +102,7 @@ class Restoration:
         self._again: set[str] = set()  # the folders below `pieces` of files that are to be handed on again
         self._finished: dict[str, About] = {}  # those of files that were handed on, and what is noted of each
         self._why = ""  # the program failed
+        self._unread = ""  # why the spool that is there can't be read
 
     def make(self, least: int) -> None:
         """Puts it back, with a next number of so much at least, and prints what was done."""
@@ -135,8 +136,9 @@ class Restoration:
             if not said.has_mark:
                 self._session.print("the log has no line of this copy, so jobs that were done since it was made wait again")
             self._tell(gone, anew, number, path)
-            for job in *(it for it in present.jobs if it.number not in known), *self._other.jobs:
-                self._session.print(f"not in the copy: job {_shown(job)}")
+            absent = *(it for it in present.jobs if it.number not in known), *self._other.jobs
+            for line in _by_files(("not in the copy", "", job) for job in absent):
+                self._session.print(line)
         except OSError as error:
             self.faults.append(f"standard output can't be written, and lacks what was done: {error.strerror}")
 
@@ -251,10 +253,6 @@ class Restoration:
         """What is known of the spool that is there, if it is the copy's: a later or an earlier state of it. Nobody else has it open
         from now on."""
         self._is_same = self._present_text(f"{self._source.name}-word").strip() == self._source.word
-        try:
-            database = stack.enter_context(its_turn.database(self._settings.spool, self._pause))
-        except OSError:
-            return Known(0, [])
 
         def put(target: Target) -> None:
             target.put(self._source.name, database)
@@ -262,9 +260,11 @@ class Restoration:
                 target.put(f"{self._source.name}-wal", handle)
 
         try:
+            database = stack.enter_context(its_turn.database(self._settings.spool, self._pause))
             known = self._known(room, _PRESENT, put)
-        except OSError:
-            return Known(0, [])
+        except OSError as error:
+            known, self._why = Known(0, []), error.strerror or ""
+        self._unread = "" if known.next else self._why or "uuspool failed"
         if self._is_same:
             return known
         self._other = known
@@ -416,9 +416,13 @@ class Restoration:
         moved = self._files()
         for name in moved:
             os.link(name, name, src_dir_fd=self._place.handle, dst_dir_fd=made.handle, follow_symlinks=False)
-        path = self._place.exchange(made, self._source.name)
-        for name in moved:
-            os.unlink(name, dir_fd=self._place.handle)
+        path = self._place.exchange()
+        try:
+            self._place.put_aside(made, self._source.name)
+            for name in moved:
+                os.unlink(name, dir_fd=self._place.handle)
+        except OSError as error:
+            self.faults.append(f"the copy is put back, but a step behind that failed in {path}, where the spool that was there is ({error.strerror}): run this again")
         return path
 
     # ---- what is told
@@ -427,19 +431,40 @@ class Restoration:
         """Says it on standard output."""
         if not self._is_same:
             self._session.print("the spool that was there has another word than the copy, or none")
-        for job, line, lost in gone:
-            if not lost:
-                self._session.print(f"done before ({line.how}, {line.moment}): job {_shown(job)}")
-            elif job.number in anew:
-                self._session.print(f"queued anew for {_system_of(lost)} as job {anew[job.number]}, since job {lost.number} is lost: job {_shown(job)}")
-            else:
-                self._session.print(f"waits again, since job {lost.number} is lost: job {_shown(job)}")
+        if self._unread:
+            self._session.print(f"the spool that was there can't be read ({self._unread}), so nobody knows which of its jobs aren't in the copy")
+        for line in _by_files(_fates(gone, anew)):
+            self._session.print(line)
         self._session.print(f"the next job gets {number} or a later number")
         self._session.print(f"the spool that was there is in {path}")
 
 
 def _system_of(lost: logged.Anew) -> str:
     return lost.line[lost.line.index("--") + 1]
+
+
+def _fates(gone: Sequence[Gone], anew: Mapping[int, int]) -> Iterator[tuple[str, str, Job]]:
+    """What is said of each of these jobs: what may be the same for all pieces of a file, and the rest."""
+    for job, line, lost in gone:
+        if not lost:
+            yield f"done before ({line.how}, ", f"{line.moment})", job
+        elif job.number in anew:
+            yield f"queued anew for {_system_of(lost)} ", f"as job {anew[job.number]}, since job {lost.number} is lost", job
+        else:
+            yield "waits again, ", f"since job {lost.number} is lost", job
+
+
+def _by_files(fates: Iterable[tuple[str, str, Job]]) -> list[str]:
+    """A line for each job, or for all pieces of a file of which the same is said. It is that of the first one."""
+    lots: dict[tuple[str, str, str], list[tuple[str, Job]]] = collections.defaultdict(list)
+    for what, rest, job in fates:
+        lots[what, job.system, name_of(job)].append((f"{what}{rest}: job ", job))
+    return [f"{lot[0][0]}{_shown(whole_of(lot[0][1]))}{_part_of(lot[0][1], len(lot))}" for lot in lots.values()]
+
+
+def _part_of(job: Job, pieces: int) -> str:
+    piece = Piece.of(job)
+    return f" ({pieces} of {piece.total} pieces)" if piece else ""
 
 
 def _shown(job: Job) -> str:

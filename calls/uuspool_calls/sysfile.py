@@ -75,8 +75,7 @@ class Reader:
         """The definitions in the file, and whether a line was skipped."""
         with tempfile.TemporaryDirectory(prefix="uuspool.work.") as folder:
             settings = f"{folder}/uuspool.toml"
-            with open(settings, "w", encoding="utf-8") as file:
-                file.write(f'name = "{self._site.own}"\nspool = "{folder}/spool.db"\n')
+            files.replace(settings, f'name = "{self._site.own}"\nspool = "{folder}/spool.db"\n'.encode())
             self._expect_done(self._run(settings, "init", b""), LATER)
             loaded = self._expect_done(self._run(settings, "load", text), 1)
             systems = self._expect_done(self._run(settings, "systems", b""), LATER)

@@ -35,7 +35,8 @@ class Turn(files.Lock):
             # (By the path the owner may have put a link there meanwhile.)
             holder = os.pread(self.handle, _MOST_DIGITS, 0).decode(errors="replace").strip()
             raise Failure(LATER, f"no turn within {self.seconds} seconds: process {holder or '-'} has {self.path}")
-        os.pwrite(self.handle, b"%10d\n" % os.getpid(), 0)
+        with files.naming(self.handle):
+            os.pwrite(self.handle, b"%10d\n" % os.getpid(), 0)
 
     @contextlib.contextmanager
     def database(self, path: str, pause: Callable[[float], None]) -> Iterator[int]:

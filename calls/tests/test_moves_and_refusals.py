@@ -71,8 +71,8 @@ class Whole:
         self.came: dict[str, set[int]] = {it: set() for it in _NEIGHBOURS}
 
 
-class Minds(Folder):
-    """One site, and those who change their minds."""
+class Histories(Folder):
+    """One site, and its users and processes, which move, refuse, remove and settle."""
 
     def begin(self, seed: int) -> None:
         self.chance, self.left = random.Random(seed), 0
