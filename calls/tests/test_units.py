@@ -8,7 +8,7 @@ import subprocess
 import unittest
 from unittest import mock
 
-from uuspool_calls import check, cli, files, units
+from uuspool_calls import bundle, check, cli, files, units
 from uuspool_calls.errors import Stopped
 from uuspool_calls.processes import kill_group
 
@@ -260,3 +260,13 @@ class Pages(Folder):
             self.put("killed")
             subprocess.run(["sh", "-c", script.replace(copy, f"{self.folder}/copy")], cwd=f"{self.folder}/folder", env={"PATH": f"{self.folder}/bin:/usr/bin:/bin"}, check=False)
             self.assertEqual(wanted, self.bytes_of("killed").decode().split())
+
+    def test_the_script_that_answers_a_bundle_leaves_no_file(self) -> None:
+        with open(f"{TOP}/docs/bundles.md", encoding="utf-8") as file:
+            script = re.findall(r"(?m)^    #!/bin/sh\n((?:    .*\n)+)", file.read())[0].replace("/var/spool/uuspool", self.folder)
+        self.put("bin/uuspool", '#!/bin/sh\necho "$1 $(wc -c)"\n', 0o755)
+        self.put("tmp/x")
+        env = {"PATH": f"{self.folder}/bin:/usr/bin:/bin", "TMPDIR": f"{self.folder}/tmp"}
+        ran = subprocess.run(["sh", "-c", script], input=bytes(5_000_000), env=env, stdout=subprocess.PIPE, stderr=subprocess.STDOUT, check=True)
+        self.assertEqual([f"{it} {bundle.MOST + 1}" for it in ("unpack", "settle", "answer")], ran.stdout.decode().splitlines())
+        self.assertEqual(["x"], os.listdir(f"{self.folder}/tmp"))
