@@ -15,7 +15,7 @@ from .test_relay import ADD_KEY
 
 # Whether a program finds a key of its session.
 FINDS = 'import ctypes; print(ctypes.CDLL(None).syscall(*map(ctypes.c_long, ({keyctl}, 10, -3)), b"user", b"members", ctypes.c_long(0)) > 0)'
-SHOWS = 'grep Sig /proc/self/status; ls /proc/$$/fd; umask; pwd; env | grep -v ^_=; exit 3'
+SHOWS = 'grep -E "Sig(Blk|Ign|Cgt)" /proc/self/status; ls /proc/$$/fd; umask; pwd; env | grep -v ^_=; exit 3'
 
 
 class WithoutKeys(Folder):
