@@ -176,7 +176,7 @@ class Carriers(Folder):
         ):  # fmt: skip
             os.rmdir(path) if os.path.isdir(path) else files.remove(path)
             change()
-            why = f"^{path} is no public key in a file of .*: move it and {path[:-4]} away, and run this line again, which makes a new key$"
+            why = f"^{path} is no public key in a file of .*: as root move it and {path[:-4]} away, and run this line again, which makes a new key$"
             with self.assertRaisesRegex(Failure, why):
                 its._public_key()
 
@@ -402,7 +402,7 @@ class Small(Folder):
             [
                 "uuspool: cannot read /x: install the package, set UUSPOOL_DIR, or correct the settings.",
                 f"{self.folder}/uuspool.toml: line 2: the key spol means nothing here, and is passed over.",
-                f"{self.folder}/s, the folder of the spool, is not there: install -d -o uucp -g uucp -m 700 {self.folder}/s",
+                f"{self.folder}/s, the folder of the spool, is not there: mkdir -m 700 {self.folder}/s && chown -h uucp:uucp {self.folder}/s",
             ],
             session.printed,
         )

@@ -804,7 +804,7 @@ class Sources(Folder):
         os.symlink("elsewhere", f"{self.copy}/spool")
         self.refuses("has no folder spool")
         os.chmod(self.copy, 0o777)
-        self.refuses("others may write")
+        self.refuses("others may write .*: copy it to a folder of your own$")
         self.copy = "/nowhere"
         self.refuses("No such file or directory: name a folder that uuspool-backup made")
 
@@ -819,7 +819,7 @@ class Sources(Folder):
         os.remove(f"{self.copy}/spool/spool.db-word")
         os.rename(f"{self.folder}/word", f"{self.copy}/spool/spool.db-word")
         self.give(f"{self.copy}/spool/spool.db-word")
-        self.refuses("belongs to user 1, not 0: correct it by chown")
+        self.refuses("belongs to user 1, not 0: correct it by chown -h")
 
 
 class Numbers(Folder):

@@ -9,6 +9,7 @@ from uuspool_calls import check, clock, figures, metrics, monitor
 from uuspool_calls.errors import Failure
 from uuspool_calls.figures import Figures, Neighbour
 from uuspool_calls.processes import Ended
+from uuspool_calls.session import user_name
 from uuspool_calls.settings import Settings
 
 from .standins import SITE, Folder, Quiet
@@ -260,6 +261,42 @@ class Checked(Folder):
         with mock.patch.object(self.check, "_missing_spool", return_value=""), mock.patch.object(check, "owner_of", return_value="12345"):
             self.assertFalse(self.check.spool())
         self.assertEqual([f"{self.folder} belongs to user 12345, who has no account: chown -R uucp {self.folder}"], self.said)
+
+    def test_the_log(self) -> None:
+        for path in "spool.db", "spool.db-word":
+            self.put(path, "x", 0o600)
+        self.check._settings = self.check._settings._replace(spool=f"{self.folder}/spool.db", log=f"{self.folder}/log")
+        self.check._owner = user_name(os.geteuid())
+        logs, link = f"{self.folder}/logs/log", f"{self.folder}/log"
+
+        def found(*paths: str) -> None:
+            self.said.clear()
+            self.check._check_folder()
+            self.assertEqual([f"{it}, the log, is no file of {self.check._owner}'s, but perhaps a link to another one" for it in paths], [it.partition(", so")[0] for it in self.said])
+
+        found()
+        os.symlink(logs, link)
+        found()
+        self.put("logs/log")
+        found()
+        os.remove(logs)
+        os.symlink(self.put("roots"), logs)
+        self.give(f"{self.folder}/roots")
+        found(logs)
+        os.lchown(link, 1, 1)
+        found(link)
+        for make in os.mkdir, os.mkfifo, lambda path: self.give(self.put("log")):
+            os.rmdir(link) if os.path.isdir(link) and not os.path.islink(link) else os.remove(link)
+            make(link)
+            found(link)
+
+    def test_no_page_has_root_give_away_what_a_link_leads_to(self) -> None:
+        top = os.path.dirname(os.path.dirname(os.path.dirname(os.path.abspath(__file__))))
+        for folder in "man", "docs", "calls/uuspool_calls", "fronts":
+            for name in os.listdir(f"{top}/{folder}"):
+                if name.endswith((".1", ".5", ".7", ".md", ".py")) or folder == "fronts":
+                    with open(f"{top}/{folder}/{name}") as file:
+                        self.assertEqual([], re.findall(r"(?<![.fl])chown\b(?! \\?-[hR]| there: ).*", file.read()), name)
 
     def test_what_deliveries_need(self) -> None:
         self.check._session.environment["UUSPOOL_PUBLIC"] = f"{self.folder}/public"

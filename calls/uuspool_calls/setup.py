@@ -209,7 +209,7 @@ class Setup:
                 words = os.pread(handle, _MOST_OF_A_KEY, 0).decode(errors="replace").split()[:2]
         if not _is_key(words):
             why = f"{path} is no public key in a file of {self._owner}"
-            raise Failure(LATER, f"{why}: move it and {path.removesuffix('.pub')} away, and run this line again, which makes a new key")
+            raise Failure(LATER, f"{why}: as {self._owner} move it and {path.removesuffix('.pub')} away, and run this line again, which makes a new key")
         return words
 
     def _give(self, path: str, owner: int, mode: int) -> None:

@@ -104,7 +104,7 @@ class Source:
             raise Failure(LATER, f"{self.path}/spool/{name}: {error.strerror}") from None
         if (owner := os.fstat(handle).st_uid) != self._owner:
             os.close(handle)
-            raise Failure(LATER, f"{self.path}/spool/{name} belongs to user {owner}, not {self._owner}: correct it by chown")
+            raise Failure(LATER, f"{self.path}/spool/{name} belongs to user {owner}, not {self._owner}: correct it by chown -h")
         return handle
 
     def text(self, name: str) -> str:
@@ -124,5 +124,5 @@ def _opened(path: str) -> int:
     seen = os.fstat(handle)
     if seen.st_uid not in (0, os.geteuid()) or stat.S_IMODE(seen.st_mode) & _OTHERS_WRITE:
         os.close(handle)
-        raise Failure(LATER, f"others may write {path}, or it belongs to another user: chmod go-w {path}, or chown it")
+        raise Failure(LATER, f"others may write {path}, or it belongs to another user: copy it to a folder of your own")
     return handle
