@@ -500,7 +500,9 @@ class Small(Folder):
                 os.chmod(f"{self.folder}/public", mode)
                 self.put("expire", f"$expire_uucppublic = {days};\n")
                 session = Quiet(self.folder)
-                check.Check(session)._check_cleaner(f"{self.folder}/public")
+                looks = check.Check(session)
+                looks._owner = pwd.getpwuid(os.geteuid()).pw_name
+                looks._check_cleaner(f"{self.folder}/public")
                 self.assertEqual(found, len(session.printed), (mode, days))
 
 
