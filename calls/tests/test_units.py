@@ -74,6 +74,17 @@ class Configured(Folder):
         ran = subprocess.run(["sh", "-c", f"spool=x\n{line}\nas_user uuspool init; echo $?"], stdout=subprocess.PIPE, text=True, timeout=20)
         self.assertEqual("137\n", ran.stdout)
 
+    def test_what_the_spools_user_prints_without_end_fills_no_memory(self) -> None:
+        with open(f"{TOP}/packaging/postinst", encoding="utf-8") as file:
+            (line,) = re.findall("(?m)^as_user\\(\\) .*$", file.read())
+        if os.geteuid():
+            self.skipTest("only root runs a program as another user")
+        with open(f"{TOP}/calls/as-owner", encoding="utf-8") as file:
+            program = self.put("as-owner", file.read().replace("/usr/local/lib/uuspool", f"{TOP}/calls"), 0o755)
+        line = line.replace("/usr/lib/uuspool/as-owner", program).replace(" uucp ", " daemon ")
+        ran = subprocess.run(["sh", "-c", f"spool=x\n{line}\nas_user head -c 300000 /dev/zero; echo $?; as_user head -c 50000 /dev/zero; echo $?"], stdout=subprocess.PIPE, text=True, timeout=60)
+        self.assertEqual("141\n0\n", ran.stdout)
+
 
 class Purged(Folder):
     """What postrm does, below a folder."""
