@@ -244,6 +244,13 @@ class Pages(Folder):
         made = [(host, "${1}@duke") for host in ("duke", "phs", "gw\\.named", "a_b", "unc")] + [("e", "unc!E!${1}@duke")]
         self.assertEqual([f"/^(.*)@{host}$/\t{path}" for host, path in made], self.bytes_of("paths").decode().splitlines())
 
+    def test_mailers_keep_capitals(self) -> None:
+        with open(f"{TOP}/docs/mailers.md", encoding="utf-8") as file:
+            page = file.read()
+        self.assertEqual(["Fqh"], re.findall(r"(?m)^ +flags=(\w+) ", page))
+        (name,) = re.findall(r"(?m)^    (\w+):\n      driver = pipe\n(?:      .*\n)*?      command = .*LOCAL_PART", page)
+        self.assertRegex(page, f"(?m)^    {name}:\n      driver = accept\n(      .*\n)*      caseful_local_part\n")
+
     def test_the_jobs_that_are_gone_after_a_copy_are_numbers(self) -> None:
         """The spool's user writes the log, and no word of it is an option of root's."""
         with open(f"{TOP}/docs/backup.md", encoding="utf-8") as file:
