@@ -1,6 +1,12 @@
 # What bash offers behind uuspool-call and the other commands of calls and deliveries.
 # shellcheck shell=bash
 
+# Names of files (-f) or folders (-d), which readline quotes, because anybody may have made them.
+_uuspool_paths() {
+    compopt -o filenames
+    mapfile -t -O ${#COMPREPLY[@]} COMPREPLY < <(compgen "$1" -- "$2")
+}
+
 _uuspool_call() {
     local word=${COMP_WORDS[COMP_CWORD]} before=${COMP_WORDS[COMP_CWORD - 1]} command=${COMP_WORDS[0]##*/}
     local words='' options='' entries="${UUSPOOL_ETC:-/etc/uuspool}/calls"
@@ -26,9 +32,8 @@ _uuspool_call() {
     uuspool-setup:2:--from-taylor) words='-k uucico taylor' ;;
     uuspool-setup:2:*) words='ssh folder command uucico taylor key seal' ;;
     uuspool-hold:2:*) words='off' ;;
-    uuspool-setup:*:folder) mapfile -t COMPREPLY < <(compgen -d -- "$word") ;;
-    uuspool-backup:* | uuspool-restore:*) mapfile -t -O ${#COMPREPLY[@]} COMPREPLY < <(compgen -d -- "$word") ;;
-    uuspool-setup:*:command | uuspool-sys:* | uuspool-check:*:--metrics) mapfile -t -O ${#COMPREPLY[@]} COMPREPLY < <(compgen -f -- "$word") ;;
+    uuspool-setup:*:folder | uuspool-backup:* | uuspool-restore:*) _uuspool_paths -d "$word" ;;
+    uuspool-setup:*:command | uuspool-sys:* | uuspool-check:*:--metrics) _uuspool_paths -f "$word" ;;
     # The neighbours that there is a way to call.
     uuspool-call:* | uuspool-move:* | uuspool-hold:1:* | uuspool-setup:1:* | uuspool-answer:* | *log:*:-s | uuspool-check:*:-s)
         mapfile -t -O ${#COMPREPLY[@]} COMPREPLY < <(cd -- "$entries" 2>/dev/null && compgen -f -- "$word")

@@ -14,6 +14,7 @@ _uuspool() {
     done
     case $subcommand:$before in
     :-c)
+        compopt -o filenames # (readline quotes these, because anybody may have made them)
         mapfile -t COMPREPLY < <(compgen -f -- "$word")
         return
         ;;

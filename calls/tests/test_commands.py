@@ -189,7 +189,7 @@ class Carriers(Folder):
         its, keys = setup.Setup(self.session, "duke"), f"{home}/.ssh/authorized_keys"
         if os.geteuid():
             self.skipTest("only root makes accounts")
-        with mock.patch.object(pwd, "getpwnam", return_value=pwd.getpwuid(0)):
+        with mock.patch.object(setup, "ETC", f"{self.folder}/etc"), mock.patch.object(pwd, "getpwnam", return_value=pwd.getpwuid(0)):
             its.add_key("ssh-ed25519", "AAAA")
             before = files.read_bytes(keys)
             self.assertRegex(before or b"", b'^command="[^"]*/uuspool-answer duke",restrict ssh-ed25519 AAAA duke\n$')
@@ -200,6 +200,37 @@ class Carriers(Folder):
                         its.add_key("ssh-ed25519", "BBBB")
                     self.assertEqual(before, files.read_bytes(keys))
                     undo()
+
+    def test_no_key_of_a_second_site_lets_its_neighbour_into_the_first(self) -> None:
+        if os.geteuid():
+            self.skipTest("only root adds a key")
+        self.put_program()
+        self.session.program = f"{self.folder}/bin/uuspool"
+        self.put("s/a b.db", "x")
+        home = self.session.environment["UUSPOOL_HOME"] = f"{self.folder}/home"
+        keys, answer = f"{home}/.ssh/authorized_keys", f"{self.session.commands}/uuspool-answer"
+        theirs = f'command="env UUSPOOL_DIR=/srv/b {answer} duke",restrict ssh-ed25519 BBBB duke\n'
+        its, end = setup.Setup(self.session, "duke"), f'{answer} duke",restrict ssh-ed25519 AAAA duke$'
+        mine = f'command="{answer} duke",restrict ssh-ed25519 %s duke\n'
+        with mock.patch.object(setup, "ETC", f"{self.folder}/etc"), mock.patch.object(pwd, "getpwnam", return_value=pwd.getpwuid(0)) as getpwnam:
+            self.put("home/.ssh/authorized_keys", mine % "OLD" + theirs)
+            os.chmod(home, 0o755)
+            its.add_key("ssh-ed25519", "AAAA")
+            with self.assertRaisesRegex(Failure, f"^{keys} gives this key to a neighbour of another site: let duke have another key$"):
+                its.add_key("ssh-ed25519", "BBBB")
+            getpwnam.side_effect = lambda name: pwd.getpwuid(1 if name == "uuspool" else 0)
+            with self.assertRaisesRegex(Failure, "^the account uuspool has another number than root, .*: usermod -o -u 0 -g 0 uuspool$"):
+                its.add_key("ssh-ed25519", "CCCC")
+            by_hand = "^the account uuspool is for the site of [^ ]*: make another one with the number of root, and add this line to its authorized_keys: "
+            site_of_variable = self.bytes_of("bin/uuspool").decode().replace("cat", '[ "$UUSPOOL_DIR" ] || exit 5\ncat', 1)
+            self.put("bin/uuspool", site_of_variable, 0o755)
+            self.session.environment["UUSPOOL_DIR"] = self.folder
+            with self.assertRaisesRegex(Failure, f'{by_hand}command="env UUSPOOL_DIR={self.folder} {end}'):
+                its.add_key("ssh-ed25519", "AAAA")
+        self.put_program()
+        with mock.patch.object(setup, "ETC", f"{self.folder}/first"), self.assertRaisesRegex(Failure, f'{by_hand}command="env UUSPOOL_ETC={self.folder}/etc {end}'):
+            its.add_key("ssh-ed25519", "AAAA")
+        self.assertEqual(theirs + mine % "AAAA", (files.read_bytes(keys) or b"").decode())
 
     def test_no_two_neighbours_have_a_bundle_of_one_name_in_a_folder(self) -> None:
         for there in ["duke", "duke.2", "duke.bundle", "duke.bundle.2"], ["duke"]:

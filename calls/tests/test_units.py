@@ -1,6 +1,8 @@
 """The units of the package, and its scripts."""
+import contextlib
 import glob
 import os
+import pty
 import pwd
 import re
 import shutil
@@ -236,6 +238,30 @@ class Watched(Folder):
             looks._session.printed.clear()
 
 
+class Completions(Folder):
+    """What bash makes of a line when somebody types a tab."""
+
+    @unittest.skipUnless(shutil.which("bash"), "without bash nobody completes a line")
+    def test_a_name_of_a_file_is_one_word(self) -> None:
+        os.mkdir(f"{self.folder}/ba;touch made;$(touch made)`touch made` x")
+        heads = "uuspool -c", "uuspool-backup", "uuspool-restore", "uuspool-setup duke folder", "uuspool-setup duke command", "uuspool-sys", "uuspool-check --metrics"
+        lines = [f". {TOP}/completions/{name}.bash" for name in ("uuspool", "uuspool-call")]
+        lines += [f"{name}() {{ printf '%s\\n' \"${{@: -1}}\" >>said; }}" for name in {it.split()[0] for it in heads}]
+        lines += [f"{head} {self.folder}/ba\t" for head in heads] + ["exit"]
+        process, terminal = pty.fork()
+        if not process:
+            os.chdir(self.folder)
+            os.execvpe("bash", ["bash", "--norc", "-i"], {"PATH": os.environ["PATH"], "TERM": "dumb", "HISTFILE": ""})
+        os.write(terminal, "".join(f"{it}\n" for it in lines).encode())
+        with contextlib.suppress(OSError):
+            while os.read(terminal, 1 << 16):
+                pass
+        os.close(terminal)
+        os.waitpid(process, 0)
+        self.assertEqual(["ba;touch made;$(touch made)`touch made` x", "said"], sorted(os.listdir(self.folder)))
+        self.assertEqual([f"{self.folder}/ba;touch made;$(touch made)`touch made` x/"] * len(heads), self.bytes_of("said").decode().splitlines())
+
+
 class Pages(Folder):
     """Lines of the pages that root types."""
 
@@ -254,6 +280,13 @@ class Pages(Folder):
         subprocess.run(["sh", "-c", line], cwd=self.folder, env={"PATH": f"{self.folder}/bin:/usr/bin:/bin"}, check=True)
         made = [(host, "${1}@duke") for host in ("duke", "phs", "gw\\.named", "a_b", "unc")] + [("e", "unc!E!${1}@duke")]
         self.assertEqual([f"/^(.*)@{host}$/\t{path}" for host, path in made], self.bytes_of("paths").decode().splitlines())
+
+    def test_mailers_keep_capitals(self) -> None:
+        with open(f"{TOP}/docs/mailers.md", encoding="utf-8") as file:
+            page = file.read()
+        self.assertEqual(["Fqh"], re.findall(r"(?m)^ +flags=(\w+) ", page))
+        (name,) = re.findall(r"(?m)^    (\w+):\n      driver = pipe\n(?:      .*\n)*?      command = .*LOCAL_PART", page)
+        self.assertRegex(page, f"(?m)^    {name}:\n      driver = accept\n(      .*\n)*      caseful_local_part\n")
 
     def test_the_jobs_that_are_gone_after_a_copy_are_numbers(self) -> None:
         """The spool's user writes the log, and no word of it is an option of root's."""

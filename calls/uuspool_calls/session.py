@@ -8,6 +8,7 @@ from .errors import LATER, NOT_SET_UP, USAGE, Failure
 from .processes import Ended, Processes, Program
 from .texts import is_number
 
+ETC = "/etc/uuspool"  # the folder of the site's files, if UUSPOOL_ETC names no other
 _PASSED = frozenset("PATH HOME TERM LANG TZ TMPDIR".split())
 _PASSED_HEADS = ("LC_", "UUSPOOL_", "UUCICO_")
 _MOST_OF_ANOTHER = 1 << 24  # bytes that another user's program may write
@@ -24,7 +25,7 @@ class Session:
         self.library = library
         self.commands = f"{os.path.dirname(os.path.dirname(library))}/bin"
         self.program = f"{self.commands}/uuspool"
-        self.etc = environment.get("UUSPOOL_ETC") or "/etc/uuspool"
+        self.etc = environment.get("UUSPOOL_ETC") or ETC
         self.processes = Processes()
 
     def say(self, sentence: str) -> None:

@@ -44,10 +44,11 @@ class Settings(NamedTuple):
 NOWHERE = Settings("", "", "", "", "", "UTC0")
 
 
-def find(session: Session, options: Sequence[str] = ()) -> Settings:
-    """The settings of the site on which this run works, or of one that options of the program name. (If the program was
-    killed, as by a limit, nobody knows whether there is a site.)"""
-    ended = session.processes.run(Program([session.program, *options, "site"], "", session.environment))
+def find(session: Session, options: Sequence[str] = (), without: str = "") -> Settings:
+    """The settings of the site on which this run works, or of one that options of the program name, or of the one without a
+    variable. (If the program was killed, as by a limit, nobody knows whether there is a site.)"""
+    environment = {name: value for name, value in session.environment.items() if name != without}
+    ended = session.processes.run(Program([session.program, *options, "site"], "", environment))
     said = one_line(ended.errors)
     if ended.status in _ENDS_WITHOUT:
         raise NoSite(said or f"{session.program} ended with status {ended.status}", ended.status)

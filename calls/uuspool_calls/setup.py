@@ -6,19 +6,21 @@ of standard input. With `none` its bundles aren't sealed.
 
 For ssh it makes a key and keeps the host's, and prints the line to run at the neighbour. The keys of neighbours
 are in the account `uuspool`, which has the number of the spool's user, so that user's shell doesn't matter. root
-runs this, or the spool's user. For the latter it prints the line of a key instead of adding it."""
+runs this, or the spool's user. For the latter, and for a second site of the machine, it prints the line of a key instead
+of adding it: sshd gives a command no variable, so that account is the first site's."""
 import contextlib
 import os
 import pwd
 import re
+import shlex
 import stat
 from collections.abc import Sequence
 from functools import partial
 
-from . import carriers, files, fromtaylor, seals
+from . import carriers, files, fromtaylor, seals, settings
 from .errors import LATER, NOT_SET_UP, USAGE, Failure
 from .processes import Ended, Program
-from .session import Session, acting_as, user_name
+from .session import ETC, Session, acting_as, user_name
 from .site import find_from_anywhere, has_bytes, owner_of
 from .texts import is_name, lines_of, printable
 from .values import Any
@@ -245,26 +247,49 @@ class Setup:
 
     def add_key(self, kind: str, key: str) -> None:
         """Lets the neighbour call here."""
-        line = f'command="{self._session.commands}/uuspool-answer {self._name}",restrict {kind} {key} {self._name}'
+        line = f'command="{self._answer()}",restrict {kind} {key} {self._name}'
         if os.geteuid():
             self._session.print(f"This is the line of the key, for the authorized_keys of the account that {self._name} calls:")
             self._session.print(line)
             return
+        if self._variables():
+            why = f"the account {_ACCOUNT} is for the site of {ETC}"
+            raise Failure(LATER, f"{why}: make another one with the number of {self._owner}, and add this line to its authorized_keys: {line}")
         home = self._session.environment.get("UUSPOOL_HOME") or "/var/lib/uuspool"
         self._make_account(home)
         path = f"{home}/.ssh/authorized_keys"
         others = (files.read_bytes(path) or b"").decode(errors="surrogateescape").splitlines()
-        lines = [it for it in others if it.split()[-1:] != [self._name] and key not in it.split()]
+        theirs = [it for it in others if re.search("UUSPOOL_(DIR|ETC)=", it)]  # (lines of another site, which somebody added)
+        if any(key in it.split() for it in theirs):
+            raise Failure(LATER, f"{path} gives this key to a neighbour of another site: let {self._name} have another key")
+        lines = [it for it in others if it in theirs or it.split()[-1:] != [self._name] and key not in it.split()]
         for name in {it.split()[-1] for it in others if key in it.split()} - {self._name}:
             self._session.print(f"{name} may not call with this key any more, since sshd takes the first line of a key.")
         self._put(path, "".join(f"{it}\n" for it in (*lines, line)))
         self._session.print(f"{self._name} may call uuspool@{os.uname().nodename} with its key now.")
 
+    def _answer(self) -> str:
+        """The command of the neighbour's key, within quotes."""
+        words = [f"{self._session.commands}/uuspool-answer", self._name]
+        given = self._variables()
+        return shlex.join(["env", *given, *words] if given else words).replace('"', '\\"')
+
+    def _variables(self) -> list[str]:
+        """What leads to this site a command that sshd runs. The machine's own site needs none."""
+        given = [f"UUSPOOL_ETC={os.path.abspath(self._etc)}"] if os.path.realpath(self._etc) != os.path.realpath(ETC) else []
+        try:
+            found = settings.find(self._session, without="UUSPOOL_DIR").spool
+        except settings.NoSite:
+            found = ""
+        return given if found == self._found.spool else [f"UUSPOOL_DIR={self._found.start}", *given]
+
     def _make_account(self, home: str) -> None:
         """An account whose shell runs the command of a key, and whose files only root writes."""
         owner = pwd.getpwnam(self._owner)
         try:
-            pwd.getpwnam(_ACCOUNT)
+            if pwd.getpwnam(_ACCOUNT).pw_uid != owner.pw_uid:
+                why = f"the account {_ACCOUNT} has another number than {self._owner}, so who calls it does not reach this site"
+                raise Failure(LATER, f"{why}: usermod -o -u {owner.pw_uid} -g {owner.pw_gid} {_ACCOUNT}")
         except KeyError:
             words = ["-o", "-u", str(owner.pw_uid), "-g", str(owner.pw_gid), "-M", "-N", "-d", home, "-s", "/bin/sh", "-p", "*"]
             made = self._run("useradd", *words, _ACCOUNT)
