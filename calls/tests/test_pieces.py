@@ -134,6 +134,15 @@ class Coming(Arrivals):
             with self.assertRaisesRegex(Refusal, "~/b is where files of b come to mysite"):
                 self.delivery.deliver(whole._replace(content=content, words=("/x", "~/b")))
 
+    def test_no_file_of_a_neighbour_in_the_common_folder_comes_where_those_of_another_will(self) -> None:
+        self.put("etc/public", f"a {self.folder}/public\n")
+        job = Delivered("send", ("/x", "~/b/x"), -1, "a", "a!ann", "mysite!1!2026-11-28.10:00:00")
+        with memory_file(b"x") as content:
+            with self.assertRaisesRegex(Refusal, "~/b/x is where files of b come to mysite"):
+                self.delivery.deliver(job._replace(content=content))
+            for path in "~/a/x", "~/x":
+                self.delivery.deliver(job._replace(content=content, words=("/x", path)))
+
     def test_no_more_is_kept_than_came(self) -> None:
         for at in 2000, 0, 1000:
             self.take(DATA + bytes(LENGTH), at)

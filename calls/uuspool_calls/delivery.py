@@ -73,8 +73,8 @@ class Delivery:
             raise Refusal(f"{job.sender}, from which it came, is no name of a neighbour")
         if job.kind == "send" and len(job.words) >= 2:
             public.expect_inside(job.words[1], self._own)
-            if not job.sender:
-                self._expect_of_nobody(job.words[1])
+            if self.public_of(job.sender).is_common:
+                self._expect_of_nobody(job.words[1], job.sender)
             if notify := Wishes.read(job.words[2:]).notify:
                 if job.sender and "!" in notify.removeprefix(f"{self._own}!"):
                     raise Refusal(f"{self._own} writes to its own users that a file came, not to {notify}")
@@ -89,10 +89,10 @@ class Delivery:
         else:
             self._command(job)
 
-    def _expect_of_nobody(self, path: str) -> None:
-        """Refusal of a file of this site's users where those of a neighbour are to come."""
+    def _expect_of_nobody(self, path: str, sender: str) -> None:
+        """Refusal of a file where those of another neighbour are to come."""
         first = path.removeprefix("~/").split("/")[0]
-        if first != self._own and is_name(first) and self._asked.is_system(first):
+        if first not in (self._own, sender) and is_name(first) and self._asked.is_system(first):
             raise Refusal(f"{path} is where files of {first} come to {self._own}, and no others")
 
     def _expect_forwarded(self, sender: str, addresses: Sequence[str], hop: str = "") -> None:

@@ -59,9 +59,10 @@ def find(environment_folder: str, table: str, neighbour: str, own: str) -> "Publ
     others = [_plain(folder) for name, folder in folders.items() if name not in (neighbour, own)]
     folder = folders.get(neighbour or own)
     if folder is None:
-        return Public(common, own, neighbour, others=others)
-    all_of_them = map(_plain, (*folders.values(), common))
-    return Public(folder, own, is_alone=[*all_of_them].count(_plain(folder)) == 1, others=others)
+        return Public(common, own, neighbour, others=others, is_common=not neighbour)
+    all_of_them = [*map(_plain, (*folders.values(), common))]
+    is_common = _plain(folder) == _plain(common)
+    return Public(folder, own, is_alone=all_of_them.count(_plain(folder)) == 1, others=others, is_common=is_common)
 
 
 def read(table: str) -> dict[str, str]:
@@ -138,8 +139,9 @@ class Public:
     is a neighbour that shares the public folder. If it is alone where its files come, a newer file of it replaces
     an older one."""
 
-    def __init__(self, folder: str, own: str, neighbour: str = "", is_alone: bool = False, others: Sequence[str] = ()) -> None:
+    def __init__(self, folder: str, own: str, neighbour: str = "", is_alone: bool = False, others: Sequence[str] = (), is_common: bool = False) -> None:
         self._folder, self._own, self._neighbour = folder, own, neighbour
+        self.is_common = is_common  # files come beside the folders of neighbours
         self._others = others  # where files of other neighbours come
         self._is_alone = is_alone or bool(neighbour)
 
