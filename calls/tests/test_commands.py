@@ -398,6 +398,16 @@ class Small(Folder):
                 move._expect_neighbour(here, *names)
 
 
+    def test_a_system_that_is_dropped_needs_another_key(self) -> None:
+        here = site(self.folder, StandIn())
+        here.settings = here.settings._replace(seals=f"{self.folder}/seals")
+        self.put("seals/a", "0f" * 32 + "\n")
+        self.put("seals/b", "unsealed\n")
+        said = ["a has a key for seals: give it another one before it is defined again, because its old bundles are no longer known"]
+        for only_shows in True, False:
+            here.session.said.clear()  # type: ignore[attr-defined]
+            self.assertEqual(([True] * 3, said), ([sysfile._drop(here, name, only_shows) for name in "abc"], here.session.said))  # type: ignore[attr-defined]
+
     def test_definitions(self) -> None:
         text = "system a\ntime Any\nsystem b.c\ntime Never\n"
         self.assertEqual({"a": "system a\ntime Any\n", "b.c": "system b.c\ntime Never\n"}, sysfile.definitions(text))

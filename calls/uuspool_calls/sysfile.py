@@ -114,11 +114,20 @@ def _change(site: Site, given: str, wanted: dict[str, str], only_shows: bool) ->
 
 def _drop(site: Site, name: str, only_shows: bool) -> bool:
     site.session.print(f"drops {name}")
-    if only_shows:
-        return True
-    try:
-        site.spool.ask("drop", "--", name)
-    except SpoolError as error:
-        site.session.say(f"{name} stays: {error}")
-        return False
+    if not only_shows:
+        try:
+            site.spool.ask("drop", "--", name)
+        except SpoolError as error:
+            site.session.say(f"{name} stays: {error}")
+            return False
+    if _has_key(site, name):
+        site.session.say(f"{name} has a key for seals: give it another one before it is defined again, because its old bundles are no longer known")
     return True
+
+
+def _has_key(site: Site, name: str) -> bool:
+    if not site.settings.seals:
+        return False
+    from .seals import KeyFiles  # (takes long to load, and few sites seal)
+
+    return bool(KeyFiles(site.settings.seals, "").keys(name))
