@@ -303,6 +303,13 @@ class Checked(Folder):
         self.check.deliveries()
         heads = f"{self.folder}/etc/commands is not there", f"The public folder {self.folder}/public is not there"
         self.assertEqual([True, True], [line.startswith(head) for line, head in zip(self.said, heads)])
+        os.mkdir(f"{self.folder}/public")
+        self.said.clear()
+        self.check._check_public_folders()
+        self.assertEqual([], self.said)
+        self.give(f"{self.folder}/public")
+        self.check._check_public_folders()
+        self.assertRegex(self.said[0], f"^The public folder {self.folder}/public is {user_name(1)}'s. If {user_name(1)} has a site, let this one have a folder of its own: ")
 
     def test_systems_to_which_mail_goes_on(self) -> None:
         self.put("etc/forward", "# phs\nduke unc phs @example.org phs\nduke other\nmysite third\nunc *\n")

@@ -399,16 +399,17 @@ def _mark(folder: int) -> None:
         os.utime(MARK, (ahead, ahead), dir_fd=folder, follow_symlinks=False)
 
 
-def _is_marked(folder: int) -> bool:
-    """Whether this is the folder of a neighbour. (Others can't make such a mark, but Taylor UUCP brings one into a folder
-    that others may write.)"""
-    its, seen, owners = look(MARK, folder, follows=False), os.fstat(folder), (os.geteuid(), 0)
+def _is_marked(folder: int, of_any_site: bool = False) -> bool:
+    """Whether this is the folder of a neighbour, of this site or of any on this machine, each of which has a user. (Others can't
+    make such a mark, but Taylor UUCP brings one into a folder that others may write.)"""
+    its, seen = look(MARK, folder, follows=False), os.fstat(folder)
+    owners = (os.geteuid(), 0, *([seen.st_uid] if of_any_site else []))
     return its is not None and its.st_uid in owners and seen.st_uid in owners and not seen.st_mode & 0o022
 
 
 def _is_neighbours(top: int, name: str) -> bool:
     with contextlib.suppress(OSError), opened(name, _OPEN_FOLDER, folder=top) as folder:
-        return _is_marked(folder)
+        return _is_marked(folder, of_any_site=True)
     return False
 
 
