@@ -104,6 +104,18 @@ def found(path: str, owner: int, is_enough: Callable[[os.stat_result], bool] = l
             os.close(at)
 
 
+def is_led_by_root(folder: str) -> bool:
+    """Whether root may type a line with a path in a folder, since nobody else may put a link in the place of it, or of one on the way.
+    (Anybody but root risks no more than own files.)"""
+    try:
+        with found(folder, 0):
+            return True
+    except FileNotFoundError:
+        return True
+    except (OSError, Delay):
+        return os.geteuid() != 0
+
+
 def _is_fixed(folder: os.stat_result, its: os.stat_result | None, owners: tuple[int, int]) -> bool:
     """Whether nobody but these users may put something else in the place of what is in a folder."""
     is_kept = its is not None and its.st_uid in owners and folder.st_mode & stat.S_ISVTX != 0
