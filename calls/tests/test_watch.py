@@ -329,8 +329,12 @@ class Checked(Folder):
     def test_what_deliveries_need(self) -> None:
         self.check._session.environment["UUSPOOL_PUBLIC"] = f"{self.folder}/public"
         self.check.deliveries()
-        heads = f"{self.folder}/etc/commands is not there", f"The public folder {self.folder}/public is not there"
+        heads = f"{self.folder}/etc/commands is not there", f"The public folder {self.folder}/public is not there: mkdir -m 1777 {self.folder}/public && chown -h root "
         self.assertEqual([True, True], [line.startswith(head) for line, head in zip(self.said, heads)])
+        self.give(self.folder)
+        self.check._check_public_folders()
+        self.assertEqual(f"The public folder {self.folder}/public is not there: make it as root", self.said[-1])
+        os.chown(self.folder, 0, 0)
         os.mkdir(f"{self.folder}/public")
         self.said.clear()
         self.check._check_public_folders()
