@@ -265,6 +265,22 @@ class Public(Folder):
         self.assertEqual(["duke's", "duke's", "duke's", "duke's"], [asked["duke", it] for it in ("~/for-all/x", "~/y", "~/duke/y", "~/link")])
         self.assertEqual(["all", "mysite has no file ~/y", "~/duke/y came", "~/link came"], [asked["unc", it] for it in ("~/for-all/x", "~/y", "~/duke/y", "~/link")])
 
+    def test_what_a_neighbour_of_another_site_may_fetch(self) -> None:
+        """(Two sites of a machine have one public folder, unless one has another.)"""
+        with memory_file(b"duke's") as content:
+            public.Public(f"{self.folder}/public", "first", "duke").put("~/a/y", content)
+        self.put("public/for-all/x", "all")
+        for path in "duke", "duke/.uuspool", "for-all":
+            self.give(f"{self.folder}/public/{path}")
+        second = public.Public(f"{self.folder}/public", "second", "unc")
+        with second.opened("~/for-all/x") as content:
+            self.assertEqual(b"all", os.read(content, 9))
+        with self.assertRaisesRegex(Refusal, "~/duke/a/y came to second from duke"), second.opened("~/duke/a/y"):
+            pass
+        os.chmod(f"{self.folder}/public/duke", 0o777)
+        with second.opened("~/duke/a/y") as content:
+            self.assertEqual(b"duke's", os.read(content, 9))
+
     def test_without_nameless_files(self) -> None:
         with mock.patch.object(public, "_MAKE_NAMELESS", os.O_WRONLY | os.O_DIRECTORY):  # EISDIR, as a file system without them says
             self.test_nothing_of_another_is_replaced()

@@ -44,7 +44,7 @@ class Units(unittest.TestCase):
 
     def test_a_purge_takes_the_page(self) -> None:
         with open(f"{TOP}/examples/uuspool-page.service", encoding="utf-8") as unit, open(f"{TOP}/packaging/postrm", encoding="utf-8") as script:
-            self.assertIn(f"    take_away /var/log/uuspool /var/lib/{re.findall('(?m)^StateDirectory=(.*)$', unit.read())[0]} ", script.read())
+            self.assertIn(f"    take_away /var/log/uuspool /var/lib/{re.findall('(?m)^StateDirectory=(.*)$', unit.read())[0]}\n", script.read())
 
     def test_a_mailer_delivers_to_homes(self) -> None:
         for name in RUN_MAILERS:
@@ -116,6 +116,15 @@ class Purged(Folder):
         status, said = self.purge(UUSPOOL_PURGE="yes")
         self.assertEqual((0, "busy\nuuspool: not all of these could be removed: /var/log/uuspool"), (status, said.partition(" /var/lib")[0]))
         self.assertEqual(([], []), (os.listdir(f"{self.folder}/var/spool"), os.listdir(f"{self.folder}/etc/uuspool")))
+
+    def test_who_makes_files_without_end_holds_up_no_purge(self) -> None:
+        for path in "var/log/uuspool/log", "var/lib/uuspool/.ssh/authorized_keys", "etc/uuspool/calls/duke":
+            self.put(path)
+        self.put("bin/rm", "#!/bin/sh\ncase \"$*\" in */log/*) trap '' TERM; exec sleep 100 ;; esac\nexec /bin/rm \"$@\"\n", 0o755)
+        self.put("bin/timeout", "#!/bin/sh\nshift 3\nexec /usr/bin/timeout -k 1 1 \"$@\"\n", 0o755)
+        status, said = self.purge()
+        self.assertEqual((0, "uuspool: not all of these could be removed: /var/log/uuspool /var/lib/uuspool-page"), (status, said.splitlines()[-1]))
+        self.assertEqual(([], []), (os.listdir(f"{self.folder}/var/lib/uuspool"), os.listdir(f"{self.folder}/etc/uuspool")))
 
     def test_what_is_mounted_stays(self) -> None:
         self.put("etc/uuspool/calls/duke")

@@ -298,11 +298,50 @@ class Checked(Folder):
                     with open(f"{top}/{folder}/{name}") as file:
                         self.assertEqual([], re.findall(r"(?<![.fl])chown\b(?! \\?-[hR]| there: ).*", file.read()), name)
 
+    def test_no_line_leads_root_through_a_folder_that_others_may_replace(self) -> None:
+        """They may put a link in its place, as to /etc."""
+        self.put("keys/duke", "0a" * 32 + "\n", 0o640)
+        for path in "spool.db", "spool.db-word":
+            self.put(f"s/{path}", "x", 0o640)
+        self.check._folder, self.check._owner = f"{self.folder}/s", user_name(os.geteuid())
+        self.check._systems = frozenset(["duke"])
+        self.check._settings = self.check._settings._replace(path=self.put("etc/uuspool.toml"), spool=f"{self.folder}/s/spool.db", seals=f"{self.folder}/keys")
+
+        def lines() -> int:
+            self.said.clear()
+            self.check._check_folder()
+            self.check._check_seals()
+            self.assertEqual(2, len(self.said))
+            return sum("chmod 600" in it for it in self.said)
+
+        self.assertEqual(2, lines())
+        self.give(self.folder)
+        self.assertEqual(0, lines())
+        self.assertIn(f"others than root may put a link in the place of {self.folder}/s: let it be in a folder of root's", self.said[0])
+        self.assertIn("remove it as", self.said[1])
+        os.chown(self.folder, 0, 0)
+        os.rename(f"{self.folder}/keys", f"{self.folder}/s/keys")
+        os.symlink("s/keys", f"{self.folder}/keys")
+        self.assertEqual(2, lines())
+        self.give(f"{self.folder}/s")
+        self.assertEqual(1, lines())
+
     def test_what_deliveries_need(self) -> None:
         self.check._session.environment["UUSPOOL_PUBLIC"] = f"{self.folder}/public"
         self.check.deliveries()
-        heads = f"{self.folder}/etc/commands is not there", f"The public folder {self.folder}/public is not there"
+        heads = f"{self.folder}/etc/commands is not there", f"The public folder {self.folder}/public is not there: mkdir -m 1777 {self.folder}/public && chown -h root "
         self.assertEqual([True, True], [line.startswith(head) for line, head in zip(self.said, heads)])
+        self.give(self.folder)
+        self.check._check_public_folders()
+        self.assertEqual(f"The public folder {self.folder}/public is not there: make it as root", self.said[-1])
+        os.chown(self.folder, 0, 0)
+        os.mkdir(f"{self.folder}/public")
+        self.said.clear()
+        self.check._check_public_folders()
+        self.assertEqual([], self.said)
+        self.give(f"{self.folder}/public")
+        self.check._check_public_folders()
+        self.assertRegex(self.said[0], f"^The public folder {self.folder}/public is {user_name(1)}'s. If {user_name(1)} has a site, let this one have a folder of its own: ")
 
     def test_systems_to_which_mail_goes_on(self) -> None:
         self.put("etc/forward", "# phs\nduke unc phs @example.org phs\nduke other\nmysite third\nunc *\n")

@@ -105,6 +105,18 @@ def found(path: str, owner: int, is_enough: Callable[[os.stat_result], bool] = l
             os.close(at)
 
 
+def is_led_by_root(folder: str) -> bool:
+    """Whether root may type a line with a path in a folder, since nobody else may put a link in the place of it, or of one on the way.
+    (Anybody but root risks no more than own files.)"""
+    try:
+        with found(folder, 0):
+            return True
+    except FileNotFoundError:
+        return True
+    except (OSError, Delay):
+        return os.geteuid() != 0
+
+
 def _is_fixed(folder: os.stat_result, its: os.stat_result | None, owners: tuple[int, int]) -> bool:
     """Whether nobody but these users may put something else in the place of what is in a folder."""
     is_kept = its is not None and its.st_uid in owners and folder.st_mode & stat.S_ISVTX != 0
@@ -401,16 +413,17 @@ def _mark(folder: int) -> None:
         os.utime(MARK, (ahead, ahead), dir_fd=folder, follow_symlinks=False)
 
 
-def _is_marked(folder: int) -> bool:
-    """Whether this is the folder of a neighbour. (Others can't make such a mark, but Taylor UUCP brings one into a folder
-    that others may write.)"""
-    its, seen, owners = look(MARK, folder, follows=False), os.fstat(folder), (os.geteuid(), 0)
+def _is_marked(folder: int, of_any_site: bool = False) -> bool:
+    """Whether this is the folder of a neighbour, of this site or of any on this machine, each of which has a user. (Others can't
+    make such a mark, but Taylor UUCP brings one into a folder that others may write.)"""
+    its, seen = look(MARK, folder, follows=False), os.fstat(folder)
+    owners = (os.geteuid(), 0, *([seen.st_uid] if of_any_site else []))
     return its is not None and its.st_uid in owners and seen.st_uid in owners and not seen.st_mode & 0o022
 
 
 def _is_neighbours(top: int, name: str) -> bool:
     with contextlib.suppress(OSError), opened(name, _OPEN_FOLDER, folder=top) as folder:
-        return _is_marked(folder)
+        return _is_marked(folder, of_any_site=True)
     return False
 
 
