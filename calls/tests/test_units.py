@@ -297,6 +297,21 @@ class Pages(Folder):
         (name,) = re.findall(r"(?m)^    (\w+):\n      driver = pipe\n(?:      .*\n)*?      command = .*LOCAL_PART", page)
         self.assertRegex(page, f"(?m)^    {name}:\n      driver = accept\n(      .*\n)*      caseful_local_part\n")
 
+    def test_exim_keeps_mail_if_uux_cannot_begin(self) -> None:
+        with open(f"{TOP}/docs/mailers.md", encoding="utf-8") as file:
+            found = re.findall(r"(?m)^      command = /bin/sh -c '(.*)'.*\n(?:      .*\n)*?      temp_errors = (.*)$", file.read())
+        uux = "/usr/local/lib/uuspool/uux"
+        self.assertEqual(2, len([command for command, _ in found if uux in command]))
+        for command, kept in found:
+            self.assertLessEqual({"1", "2"}, {*kept.split(":")})  # (of a shell that can't fork)
+            script = command.replace("\\$", "$").replace('\\"', '"').replace(uux, f"{self.folder}/uux")
+            for text, mode, is_kept in ("", 0, True), ("exit 75", 0o644, True), ("exit 75", 0o755, True), ("kill -9 $$", 0o755, True), ("exit 64", 0o755, False), ("exit 69", 0o755, False):
+                files.remove(f"{self.folder}/uux")
+                if text:
+                    self.put("uux", f"#!/bin/sh\n{text}\n", mode)
+                ran = subprocess.run(["sh", "-c", script, "duke", "joe"], stderr=subprocess.DEVNULL, check=False)
+                self.assertEqual(is_kept, str(ran.returncode) in kept.split(":"), (text, mode, ran.returncode))
+
     def test_the_jobs_that_are_gone_after_a_copy_are_numbers(self) -> None:
         """The spool's user writes the log, and no word of it is an option of root's."""
         with open(f"{TOP}/docs/backup.md", encoding="utf-8") as file:

@@ -42,6 +42,7 @@ _LOST_BY_BUNDLES = {
 }
 _WHOLE_DAY = re.compile(r"(\d{4})-\1")
 _MOST_OF_A_JOB = 1 << 16  # bytes of what Taylor says of one
+_MOST_TO_PASTE = 4000  # bytes: a terminal drops what a line has beyond 4,095, also its quotes, unless the shell has an editor
 _NO_LIMIT = "1000000"  # the most that a sys file may have
 
 
@@ -180,7 +181,8 @@ def queued_here(library: str, spool: str, owner: str, job: Waiting) -> str:
     line = " ".join(map(_quoted, ["uuspool", f"--as={words[3]}", kind, f"-g{grade}", "--", job.system, *rest]))
     given = f" <{_quoted(f'{spool}/{job.system}/D./{data}')}" if data else ""
     its_line = _quoted(f"{line}{given} && uustat -k {_quoted(job.id)}")
-    return f"{_quoted(f'{library}/as-owner')} {_quoted(owner)} sh -c {its_line} </dev/null 2>&1 | cat -v"
+    typed = f"{_quoted(f'{library}/as-owner')} {_quoted(owner)} sh -c {its_line} </dev/null 2>&1 | cat -v"
+    return typed if len(typed) <= _MOST_TO_PASTE else ""
 
 
 def _task(words: Sequence[str]) -> tuple[list[str], str]:
