@@ -290,3 +290,18 @@ class Pages(Folder):
         ran = subprocess.run(["sh", "-c", script], input=bytes(5_000_000), env=env, stdout=subprocess.PIPE, stderr=subprocess.STDOUT, check=True)
         self.assertEqual([f"{it} {bundle.MOST + 1}" for it in ("unpack", "settle", "answer")], ran.stdout.decode().splitlines())
         self.assertEqual(["x"], os.listdir(f"{self.folder}/tmp"))
+
+    def test_what_comes_by_hand_is_bounded(self) -> None:
+        with open(f"{TOP}/docs/bundles.md", encoding="utf-8") as file:
+            lines = re.findall(r"(?m)^    (.*>(?:back|in)\b.*)$", file.read())
+        self.assertEqual(["ssh", "(ulimit"], [it.split()[0] for it in lines])
+        for name in "ssh", "gpg":
+            self.put(f"bin/{name}", "#!/bin/sh\nexec head -c 50000000 /dev/zero\n", 0o755)
+        self.put("bin/uuspool", "#!/bin/sh\ntouch unpacked\n", 0o755)
+        for name in "out", "to-mysite":
+            self.put(name)
+        for line in lines:
+            subprocess.run(["sh", "-c", line], cwd=self.folder, env={"PATH": f"{self.folder}/bin:/usr/bin:/bin"}, stderr=subprocess.DEVNULL, check=False)
+        self.assertEqual(bundle.MOST + 1, os.path.getsize(f"{self.folder}/back"))
+        self.assertLess(os.path.getsize(f"{self.folder}/in"), 10_000_000)
+        self.assertFalse(os.path.exists(f"{self.folder}/unpacked"))
