@@ -283,7 +283,7 @@ class Pages(Folder):
         self.put("mailname", "Mail\n")
         for name, said in ("hostname", "mysite"), ("postconf", "$myhostname, other,hash:/etc/x, localhost"):
             self.put(f"bin/{name}", f"#!/bin/sh\necho '{said}'\n", 0o755)
-        for path, ours in ("/usr/local/lib/uuspool/as-owner uucp uuspool routes", "cat routes"), ("/etc/postfix/", ""), ("/etc/mailname", "mailname"):
+        for path, ours in ("/usr/local/lib/uuspool/as-owner -m 10000000 uucp uuspool routes >/etc/postfix/routes", "true"), ("/etc/postfix/", ""), ("/etc/mailname", "mailname"):
             self.assertIn(path, line)
             line = line.replace(path, ours)
         subprocess.run(["sh", "-c", line], cwd=self.folder, env={"PATH": f"{self.folder}/bin:/usr/bin:/bin"}, check=True)
@@ -329,6 +329,17 @@ class Pages(Folder):
             subprocess.run(["sh", "-c", script.replace(copy, f"{self.folder}/copy")], cwd=f"{self.folder}/folder", env={"PATH": f"{self.folder}/bin:/usr/bin:/bin"}, check=False)
             self.assertEqual(wanted, self.bytes_of("killed").decode().split())
 
+    def test_the_table_for_postfix_stays_if_nobody_knows_the_routes(self) -> None:
+        with open(f"{TOP}/docs/mailers.md", encoding="utf-8") as file:
+            line = re.findall(r"(?ms)^    own=.*?/etc/postfix/paths$", file.read())[0].replace("/etc/postfix/", "")
+        for name in "hostname", "postconf":
+            self.put(f"bin/{name}", "#!/bin/sh\n", 0o755)
+        for status, table in (141, "old\n"), (0, "/^(.*)@phs$/\t${1}@duke\n"):
+            self.put("paths", "old\n")
+            line = line.replace("/usr/local/lib/uuspool/as-owner", self.put("as-owner", f"#!/bin/sh\n[ $1 = -m ] || exit\nprintf 'phs\\tduke!%%s\\n'; exit {status}\n", 0o755))
+            subprocess.run(["sh", "-c", line], cwd=self.folder, env={"PATH": f"{self.folder}/bin:/usr/bin:/bin"}, stderr=subprocess.DEVNULL, check=False)
+            self.assertEqual(table, self.bytes_of("paths").decode())
+
     def test_the_script_that_answers_a_bundle_leaves_no_file(self) -> None:
         with open(f"{TOP}/docs/bundles.md", encoding="utf-8") as file:
             script = re.findall(r"(?m)^    #!/bin/sh\n((?:    .*\n)+)", file.read())[0].replace("/var/spool/uuspool", self.folder)
@@ -338,3 +349,18 @@ class Pages(Folder):
         ran = subprocess.run(["sh", "-c", script], input=bytes(5_000_000), env=env, stdout=subprocess.PIPE, stderr=subprocess.STDOUT, check=True)
         self.assertEqual([f"{it} {bundle.MOST + 1}" for it in ("unpack", "settle", "answer")], ran.stdout.decode().splitlines())
         self.assertEqual(["x"], os.listdir(f"{self.folder}/tmp"))
+
+    def test_what_comes_by_hand_is_bounded(self) -> None:
+        with open(f"{TOP}/docs/bundles.md", encoding="utf-8") as file:
+            lines = re.findall(r"(?m)^    (.*>(?:back|in)\b.*)$", file.read())
+        self.assertEqual(["ssh", "(ulimit"], [it.split()[0] for it in lines])
+        for name in "ssh", "gpg":
+            self.put(f"bin/{name}", "#!/bin/sh\nexec head -c 50000000 /dev/zero\n", 0o755)
+        self.put("bin/uuspool", "#!/bin/sh\ntouch unpacked\n", 0o755)
+        for name in "out", "to-mysite":
+            self.put(name)
+        for line in lines:
+            subprocess.run(["sh", "-c", line], cwd=self.folder, env={"PATH": f"{self.folder}/bin:/usr/bin:/bin"}, stderr=subprocess.DEVNULL, check=False)
+        self.assertEqual(bundle.MOST + 1, os.path.getsize(f"{self.folder}/back"))
+        self.assertLess(os.path.getsize(f"{self.folder}/in"), 10_000_000)
+        self.assertFalse(os.path.exists(f"{self.folder}/unpacked"))
