@@ -278,7 +278,8 @@ class Pages(Folder):
         with open(f"{TOP}/docs/mailers.md", encoding="utf-8") as file:
             line = re.findall(r"(?ms)^    own=.*?/etc/postfix/paths$", file.read())[0]
         hosts = "duke", "phs", "Mysite", "LocalHost", "MAIL", "other", "gw.example", "GW.named", "[^ ]*", ".*", "a|b", "a/b", "a b", "a_b", "unc"
-        self.put("routes", "".join(f"{host}\tduke!%s\n" for host in hosts) + "c\tduke!a${1}!%s\nd\tduke\ne\tduke!unc!E!%s\n")
+        self.put("routes", "".join(f"{host}\tduke!%s\n" for host in hosts) + "c\tduke!a${1}!%s\nd\tduke\ne\tduke!unc!E!%s\n"
+            + "SYS\tsys!SYS!%s\nSys\tother!Sys!%s\nsys\tsys!%s\nsYs\tduke!sYs!%s\nTwo\tduke!Two!%s\ntwo\tduke!unc!two!%s\n")  # fmt: skip
         self.put("map-domains", "gw.Named\n")
         self.put("mailname", "Mail\n")
         for name, said in ("hostname", "mysite"), ("postconf", "$myhostname, other,hash:/etc/x, localhost"):
@@ -287,8 +288,8 @@ class Pages(Folder):
             self.assertIn(path, line)
             line = line.replace(path, ours)
         subprocess.run(["sh", "-c", line], cwd=self.folder, env={"PATH": f"{self.folder}/bin:/usr/bin:/bin"}, check=True)
-        made = [(host, "${1}@duke") for host in ("duke", "phs", "gw\\.named", "a_b", "unc")] + [("e", "unc!E!${1}@duke")]
-        self.assertEqual([f"/^(.*)@{host}$/\t{path}" for host, path in made], self.bytes_of("paths").decode().splitlines())
+        made = [(host, "${1}@duke") for host in ("duke", "phs", "gw\\.named", "a_b", "unc")] + [("e", "unc!E!${1}@duke"), ("sys", "${1}@sys"), ("two", "Two!${1}@duke")]
+        self.assertEqual(sorted(f"/^(.*)@{host}$/\t{path}" for host, path in made), sorted(self.bytes_of("paths").decode().splitlines()))
 
     def test_mailers_keep_capitals(self) -> None:
         with open(f"{TOP}/docs/mailers.md", encoding="utf-8") as file:
