@@ -169,6 +169,13 @@ class Log(Folder):
             said = logged.read(f"{self.folder}/log", "", "w", "0a", [1, 2, 3], marks={1: "f0", 2: "f0", 3: "f2"})
             self.assertEqual(({1}, done), (said.handed_on, said.gone.keys() - said.lost.keys()))
 
+    def test_a_piece_of_another_user_says_nothing_of_a_job(self) -> None:
+        piece = line(13, 11, f"exec -gN -- phs uuspool-piece {'0a' * 32}.1.1.1-2026-11-28-12:00:00 0 exec rmail x").replace("ann", "evil!x")
+        self.put("log", HERE + piece + line(14, 11, "settle phs"))
+        for user, gone in ("ann", set()), ("evil!y", set()), ("evil!x", {1}):
+            said = logged.read(f"{self.folder}/log", "", "w", "0a", [1, 2], users={1: user})
+            self.assertEqual(gone, said.gone.keys() - said.lost.keys())
+
     def test_a_piece_that_is_kept_says_nothing_of_its_file(self) -> None:
         """1 and 2 brought pieces of a file. 1 had it handed on, and after a restoration 2 did."""
         first = line(13, 11, "exec -gN --once=mysite!1!onward -- phs rmail joe") + line(14, 1, "done mysite") + line(14, 2, "done mysite")

@@ -69,14 +69,17 @@ class Said(NamedTuple):
         return self._replace(gone=its, lost={number: anew for number, anew in self.lost.items() if number not in lost})
 
 
+_NONE: Mapping[int, str] = MappingProxyType({})
+
+
 def read(
-    path: str, owner: str, word: str, mark: str, jobs: Iterable[int], times: Iterable[str] = (), marks: Mapping[int, str] = MappingProxyType({})
+    path: str, owner: str, word: str, mark: str, jobs: Iterable[int], times: Iterable[str] = (), marks: Mapping[int, str] = _NONE, users: Mapping[int, str] = _NONE
 ) -> Said:
     """What the log at a path says of jobs of the spool with this word since a copy of it was made or put back, whose lines have
-    this mark. It was put back at these times. Some of the jobs brought pieces of files here, which are handed on with these marks. For root
-    the owner of the spool opens the files, who may put links there."""
+    this mark. It was put back at these times. Some of the jobs brought pieces of files here, which are handed on with these marks. Pieces of other
+    users than these, whose the jobs are, count for none. For root the owner of the spool opens the files, who may put links there."""
     faults: list[str] = []
-    reading = _Reading(word, mark, frozenset(jobs), frozenset(it.encode() for it in times), marks)
+    reading = _Reading(word, mark, frozenset(jobs), frozenset(it.encode() for it in times), marks, users)
     for words in _lines(path, owner, faults):
         reading.take(words)
     return reading.said(faults)
@@ -88,7 +91,8 @@ class _Reading:
     pieces in which jobs were handed on. Only jobs of the copy are followed, and those that stand for them or for the same ones, which have
     greater numbers. A job that brought a piece of a file is gone once the piece is kept, so that says nothing of the file."""
 
-    def __init__(self, word: str, mark: str, jobs: frozenset[int], times: frozenset[bytes], marks: Mapping[int, str]) -> None:
+    def __init__(self, word: str, mark: str, jobs: frozenset[int], times: frozenset[bytes], marks: Mapping[int, str], users: Mapping[int, str]) -> None:
+        self._users = {number: user.encode() for number, user in users.items()}
         self._word, self._mark, self._jobs, self._followed, self._times = word.encode(), mark.encode(), jobs, set(jobs), times
         self._kept = marks.keys()
         self._parts = _Parts({its.encode(): number for number, its in sorted(marks.items(), reverse=True)})
@@ -135,7 +139,7 @@ class _Reading:
             self._open = set(self._open_in.get(words[6], ()))
 
     def _take_job(self, number: int, words: list[bytes]) -> None:
-        if of := self._parts.take(number, words, lambda it: it in self._jobs or self._is_followed(it)):
+        if of := self._parts.take(number, words, self._may_be_part):
             self._open.add((of, b"done"))
         elif found := _stands_for(words):
             of, anew = found
@@ -152,6 +156,12 @@ class _Reading:
                 is_open = (number, words[6]) in self._open or (words[6] == b"done" and number in self._kept)
                 self._done |= set() if is_open else {number}
             self._open -= {(number, how) for how in _GOES}
+
+    def _may_be_part(self, number: int, user: bytes) -> bool:
+        """Whether a piece of this user may be one in which the job was handed on. (A piece that is refused, and then queued again by hand, names
+        any job.)"""
+        users = {self._users.get(it, user) for it in (number, self._first(number))}
+        return users == {user} and (number in self._jobs or self._is_followed(number))
 
     def _is_followed(self, number: int) -> bool:
         first = self._first(number)
@@ -225,14 +235,14 @@ class _Parts:
         """The jobs that were handed on."""
         return self._wholes.keys()
 
-    def take(self, number: int, words: list[bytes], is_wanted: Callable[[int], bool]) -> int:
+    def take(self, number: int, words: list[bytes], is_wanted: Callable[[int, bytes], bool]) -> int:
         """Takes a line. The number of the job that was handed on, if it is about a piece of one that is wanted, or 0."""
         found = _PIECE.match(words[7]) if words[6] == b"exec" and b"!" in words[3] and len(words) > 7 else None
         if not found:
             return 0
         its = _OF_JOB.match(found[5])
         of, size, length, at = int(its[1]) if its else self._files.get(found[5], 0), int(found[3]), int(found[4]), int(found[6])
-        if not (0 < of < number and is_wanted(of)):
+        if not (0 < of < number and is_wanted(of, words[3])):
             return 0
         name = b" ".join((words[3], found[1], found[2], found[7]))
         whole = self._wholes.setdefault(of, {}).setdefault(name, _Whole(max(1, -(-size // length)), {}))

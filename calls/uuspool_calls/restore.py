@@ -177,7 +177,7 @@ class Restoration:
             if job.system == self._settings.name and (piece := Piece.of(job)):
                 parts[name_of(job)].append(job)
                 marks[job.number] = piece.name(job.user)
-        said, there = self._read({job.number for job in jobs}, marks), self._files_there()
+        said, there = self._read({job.number for job in jobs}, marks, {job.number: job.user for job in jobs}), self._files_there()
         self._again = self._handed_on_and_lost(there)
         waiting: set[int] = set()
         done: set[int] = set()
@@ -219,9 +219,10 @@ class Restoration:
         said = self._read(names.keys(), {number: os.path.basename(name) for number, name in names.items()})
         return {names[number] for number in said.handed_on - (said.gone.keys() - said.lost.keys())}
 
-    def _read(self, jobs: Collection[int], marks: Mapping[int, str] = MappingProxyType({})) -> logged.Said:
-        """What the log says of jobs since the copy was made. Some of them brought pieces of files here, which have these marks."""
-        return logged.read(self._settings.log, self._owner, self._source.word, self._source.mark, jobs, [it.word for it in self._times], marks)
+    def _read(self, jobs: Collection[int], marks: Mapping[int, str] = MappingProxyType({}), users: Mapping[int, str] = MappingProxyType({})) -> logged.Said:
+        """What the log says of jobs of these users since the copy was made. Some of them brought pieces of files here, which have these marks."""
+        times = [it.word for it in self._times]
+        return logged.read(self._settings.log, self._owner, self._source.word, self._source.mark, jobs, times, marks, users)
 
     def _handed(self) -> set[int]:
         """The jobs of which notes say that Taylor UUCP has them, or may have them."""
