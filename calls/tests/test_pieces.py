@@ -674,6 +674,14 @@ class Newest(Refused):
             self.deliver(number)
         self.assertEqual({"x": "1", "x.2": "2", "x.2.2": "3", "x.2.3": "4"}, self.there())
 
+    def test_one_for_which_somebody_asked(self) -> None:
+        """That user's next one alone replaces it, and it replaces no other."""
+        ann, mel, joe = "a!mysite!ann", "a!mysite!mel", "a!joe"
+        for number, path, user in (1, "~/x", ann), (2, "~/x", mel), (3, "~/x", joe), (4, "~/x", ann), (5, "~/y", joe), (6, "~/y", ann), (7, "~/y", joe):
+            self.put_in(number, path, user)
+            self.deliver(number)
+        self.assertEqual({"x": "4", "x.2": "2", "x.3": "3", "y": "7", "y.2": "6"}, self.there())
+
     def test_names_with_numbers(self) -> None:
         given = "x.2", "x.999", "d/x.10", "x.1", "x.1000", "x.02", "x.", "x", "x.2/y", "x.10000000", "x.\u0662"
         self.assertEqual(given[:3], tuple(filter(public.has_number, given)))

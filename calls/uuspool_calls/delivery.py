@@ -5,7 +5,7 @@ from functools import partial
 
 from . import commands, envelope, files, forward, public, works
 from .errors import Delay, Refusal
-from .jobs import MAIL, Delivered, Job, Wishes
+from .jobs import MAIL, Delivered, Job, Wishes, at_home
 from .pieces import COMMAND, File, Piece, Pieces, cannot_be_kept
 from .processes import Program
 from .session import Session
@@ -113,9 +113,12 @@ class Delivery:
         path, word = f"{self._folder}/deliver/.{sender}.files", self._asked.word
         needed = partial(self._record_needed, name, path)
 
+        user = at_home(job.user, self._own)
+        asked = user if job.sender and user != job.user else ""
+
         def replaces(name: str, is_there: bool) -> bool:
             with needed():
-                return newest.note(path, word, name, job.number, is_there)
+                return newest.note(path, word, name, job.number, is_there, asked)
 
         def put_beside(name: str) -> None:
             with needed():

@@ -7,6 +7,12 @@ from .values import NamedTuple
 MAIL = "rmail"  # ADDRESS..: delivers mail
 REQUEST = "uuspool-request"  # FROM TO [-m] [-nUSER]: a request with wishes
 
+
+def at_home(user: str, own: str) -> str:
+    """Who a user is here, if the way to the user comes back to this site: it asked a neighbour for what came."""
+    return user.rpartition(f"!{own}!")[2]
+
+
 class Job(NamedTuple):
     """A line of `list`."""
 

@@ -5,7 +5,7 @@ from collections.abc import Sequence
 
 from . import files, forward
 from .errors import Refusal, SpoolError
-from .jobs import Job
+from .jobs import Job, at_home
 from .processes import Program
 from .site import Site
 from .texts import lines_of, printable
@@ -64,11 +64,6 @@ def _list_of(own: str, to: str, refused: Sequence[tuple[Job, str]]) -> bytes:
     head = [*_head(own, to, f"refused: {len(refused)} jobs"), f"{len(refused)} jobs are refused at {own}. The first of them:", ""]
     shown = [f"{job.user or '-'} {job.size} {job.what[:60]}: {reason}" for job, reason in refused[:_SHOWN_JOBS]]
     return "\n".join([*head, *map(printable, shown)]).encode() + b"\n"
-
-
-def at_home(user: str, own: str) -> str:
-    """Who a user is here, if the way to the user comes back to this site: it asked a neighbour for what came."""
-    return user.rpartition(f"!{own}!")[2]
 
 
 class Mailroom:

@@ -4,8 +4,13 @@ The record of a sender is one small file, written before a file gets its name: a
 again, and an older one still replaces nothing. Of most names it has the number of the job. Those that it has no more
 count as the newest of them.
 
+A file for which a user here asked replaces only one for which the same user asked, and no other file replaces it, because that user
+chose its name. So the record has whose it is, too.
+
 A file that was put beside another one, under a number, has a name of which no job of that name knows. So the record forgets such a
 name, and what has one that the record doesn't know isn't replaced, whatever put it there."""
+from collections.abc import Mapping
+
 from . import files
 from .digests import sha256
 from .public import has_number
@@ -14,19 +19,34 @@ _MOST = 1000  # names
 _SIGNS = 16  # of the sum of a name
 
 
-def note(path: str, word: str, name: str, number: int, is_there: bool = False) -> bool:
-    """Notes in a record that a job of the spool of this word puts a file of a name. Not if a newer one did, or if one is there that
-    may have been put beside another one: whether it is noted. OSError if it can't be. (Another spool gives its numbers anew.)"""
+def note(path: str, word: str, name: str, number: int, is_there: bool = False, user: str = "") -> bool:
+    """Notes in a record that a job of the spool of this word puts a file of a name, for which this user here asked, if one did. Not if a
+    newer one did, or if one is there that another one asked for, or that may have been put beside another one: whether it is noted. OSError
+    if it can't be. (Another spool gives its numbers anew.)"""
     others, names = _read(path, word)
     key = _key(name)
-    if number < names.get(key, others) or (is_there and key not in names and has_number(name)):
+    if number < names.get(key, others) or (is_there and not _is_of(names, name, user)):
         return False
     if names.get(key) != number:
-        names[key] = number
-        if len(names) > _MOST:
+        names |= dict.fromkeys([key, *([_key_of(name, user), _key_of(name)] if user else [])], number)
+        while len(names) > _MOST:
             others = max(others, names.pop(min(names, key=names.__getitem__)))
         files.write_record(path, {"word": word, "others": others, "names": names})
     return True
+
+
+def _is_of(names: Mapping[str, int], name: str, user: str) -> bool:
+    """Whether this user asked for the newest file of a name, or nobody here did if there is no user. (What the record doesn't know is of the
+    neighbour, unless its name has a number.)"""
+    newest = names.get(_key(name))
+    if newest is None:
+        return not (user or has_number(name))
+    return newest == names.get(_key_of(name, user)) if user else newest != names.get(_key_of(name))
+
+
+def _key_of(name: str, user: str = "") -> str:
+    """The key of a file of this name for which this user asked, or anybody here."""
+    return _key(f"{name}\0{user}")
 
 
 def forget(path: str, word: str, name: str) -> None:
