@@ -343,11 +343,19 @@ class Checked(Folder):
         self.check._check_public_folders()
         self.assertRegex(self.said[0], f"^The public folder {self.folder}/public is {user_name(1)}'s. If {user_name(1)} has a site, let this one have a folder of its own: ")
 
+    def test_names_that_mailers_take_for_others(self) -> None:
+        self.put("etc/forward", "mysite @Mysite.Example\n")
+        self.check._own, self.check._systems = "mysite", frozenset(["mysite", "duke", "Duke", "MySite", "mysite.example", "LocalHost", "unc"])
+        self.check._check_names()
+        taken = [("LocalHost", "this site"), ("MySite", "this site"), ("duke", "Duke"), ("mysite.example", "this site")]
+        self.assertEqual(taken, [tuple(it.removeprefix("Mailers take ").partition(":")[0].split(" for ")) for it in self.said])
+
     def test_systems_to_which_mail_goes_on(self) -> None:
-        self.put("etc/forward", "# phs\nduke unc phs @example.org phs\nduke other\nmysite third\nunc *\n")
+        self.put("etc/forward", "# phs\nduke unc phs @example.org phs unc!x\nduke other\nmysite third\nunc *\n")
         self.check._own, self.check._systems = "mysite", frozenset(["mysite", "duke", "unc"])
         self.check._check_forward()
-        (line,) = self.said
+        odd, line = self.said
+        self.assertEqual(f"{self.folder}/etc/forward: unc!x on the line of duke is no name of a system, and is passed over: correct it.", odd)
         self.assertRegex(line, f"^{self.folder}/etc/forward: mail of duke for phs is refused, because no system phs is defined: add it to {self.folder}/etc/sys, ")
 
     def test_commands_that_run_as_nobody_known(self) -> None:

@@ -8,6 +8,7 @@ from collections.abc import Collection, Sequence
 
 from .errors import Refusal
 from .files import read_bytes
+from .texts import is_name
 from .values import NamedTuple
 
 _MAILNAME = "/etc/mailname"  # Debian's name of the domain of this machine's mail
@@ -23,6 +24,7 @@ class Forward(NamedTuple):
     systems: tuple[str, ...] = ()
     domains: frozenset[str] = frozenset()
     is_all: bool = False
+    others: tuple[str, ...] = ()  # words that mean nothing
 
 
 def read(path: str, neighbour: str) -> Forward:
@@ -34,15 +36,16 @@ def read(path: str, neighbour: str) -> Forward:
 
 
 def _said(words: Sequence[str]) -> Forward:
-    systems = tuple(word for word in words if word != "*" and not word.startswith("@"))
-    return Forward(systems, frozenset(word[1:].lower() for word in words if word.startswith("@")), "*" in words)
+    rest = [word for word in words if word != "*" and not word.startswith("@")]
+    domains = frozenset(word[1:].lower() for word in words if word.startswith("@"))
+    return Forward(tuple(filter(is_name, rest)), domains, "*" in words, tuple(word for word in rest if not is_name(word)))
 
 
 def expect_allowed(path: str, own: str, neighbour: str, addresses: Sequence[str], hop: str = "") -> None:
     """Refusal unless this site takes a neighbour's mail for each of these addresses. If the mail as a whole goes on to a system (`hop`), they
     may be `HOP!USER@DOMAIN`, which a mailer here would carry to the domain."""
     forward = read(path, neighbour)
-    ours = _own_domains(path, own)
+    ours = own_domains(path, own)
     domains = forward.domains | ours
     for address in addresses:
         if not (forward.is_all or _is_allowed(_behind(own, ours, address), forward.systems, domains, hop)):
@@ -52,7 +55,7 @@ def expect_allowed(path: str, own: str, neighbour: str, addresses: Sequence[str]
 def behind(path: str, own: str, address: str) -> str:
     """An address as this site's mailer, or the next site, gets it: without this site's own name before it. What comes for a
     domain of this site and a user, as an envelope has a sender, is for the user at that domain (RFC 976)."""
-    return _behind(own, _own_domains(path, own), address) if "!" in address else address
+    return _behind(own, own_domains(path, own), address) if "!" in address else address
 
 
 def _behind(own: str, ours: Collection[str], address: str) -> str:
@@ -77,7 +80,8 @@ def next_hop(path: str, neighbour: str, addresses: Sequence[str]) -> str:
     return next(iter(hops)) if len(hops) == 1 and hops <= set(read(path, neighbour).systems) else ""
 
 
-def _own_domains(path: str, own: str) -> frozenset[str]:
+def own_domains(path: str, own: str) -> frozenset[str]:
+    """The names by which mailers know this site, in small letters."""
     mailname = (read_bytes(_MAILNAME) or b"").decode(errors="replace").strip()
     return read(path, own).domains | {it.lower() for it in (own, mailname, os.uname().nodename) if it}
 
