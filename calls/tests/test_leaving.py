@@ -118,7 +118,8 @@ class Leaving(Folder):
         for name in "crontab", "at":
             self.put(f"bin/{name}", "#!/bin/sh\n", 0o755)
         self.assertEqual(["write the line OWNER into crontab.deny."], self.ends())
-        for text, end in (OWNER, []), ("x", ["add the line OWNER to {}.deny."]):
+        add = ["add the line OWNER to {}.deny."]
+        for text, end in (OWNER, []), ("x", add), (f"{OWNER} x", add), (f"{OWNER} ", add), (f"{OWNER}\r", add), (f"{OWNER} # x", add):
             for name in "crontab", "at":
                 self.put(f"{name}.deny", f"y\n{text}\n")
             self.assertEqual([it.format(name) for name in ("crontab", "at") for it in end], self.ends())

@@ -30,13 +30,13 @@ class Scheduler(NamedTuple):
 
     def cure(self, user: str) -> str:
         """What keeps a user from it, or nothing if that is so already. (Without the second file Debian's `at` is root's, and
-        its `crontab` is for all.)"""
+        its `crontab` is for all. A line with a blank or a comment behind the name means nothing to them.)"""
         allowed, denied = files.read_bytes(self.allow), files.read_bytes(self.deny)
         if allowed is not None:
-            return f"take the line {user} out of {self.allow}" if user in _lines(allowed) else ""
+            return f"take the line {user} out of {self.allow}" if user in allowed.decode(errors="replace").split() else ""
         if files.look(self.deny) is None:
             return f"write the line {user} into {self.deny}" if self.name == "crontab" else ""
-        return f"add the line {user} to {self.deny}" if denied is not None and user not in _lines(denied) else ""
+        return f"add the line {user} to {self.deny}" if denied is not None and user not in denied.decode(errors="replace").split("\n") else ""
 
 
 CRONTAB = Scheduler("crontab", "/etc/cron.allow", "/etc/cron.deny", "/var/spool/cron/crontabs")
@@ -135,7 +135,3 @@ def _holds(folder: str, names: Sequence[str]) -> bool:
     its, below = files.look(folder), [files.look(f"{folder}/{name}", follows=False) for name in names]
     is_sticky = its is not None and its.st_mode & stat.S_ISVTX and its.st_uid != os.geteuid()
     return bool(is_sticky) and any(seen is not None and seen.st_uid != os.geteuid() for seen in below)
-
-
-def _lines(text: bytes) -> list[str]:
-    return text.decode(errors="replace").split()
