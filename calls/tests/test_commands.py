@@ -537,14 +537,15 @@ class Small(Folder):
         expire = self.put("expire", "# a file\n$expire_uucppublic\t\t= 14;\t# days\n")
         names = {"_CLEANER_OF_TAYLOR": self.put("uudemon.day"), "_EXPIRE_OF_TAYLOR": expire, "_CLEANED_BY_TAYLOR": f"{self.folder}/public"}
         with patch.multiple(check, **names):
-            for mode, days, found in ((0o1777, 14, 1), (0o755, 14, 0), (0o1777, 0, 0)):
+            line = "$expire_uucppublic = {};\n"
+            for mode, text, found in (0o1777, line.format(14), 1), (0o755, line.format(14), 0), (0o1777, line.format(0), 0), (0o1777, f"# {line.format(0)}", 1), (0o1777, "", 1):
                 os.chmod(f"{self.folder}/public", mode)
-                self.put("expire", f"$expire_uucppublic = {days};\n")
+                self.put("expire", text)
                 session = Quiet(self.folder)
                 looks = check.Check(session)
                 looks._owner = pwd.getpwuid(os.geteuid()).pw_name
                 looks._check_cleaner(f"{self.folder}/public")
-                self.assertEqual(found, len(session.printed), (mode, days))
+                self.assertEqual(found, len(session.printed), (mode, text))
 
 
     def test_what_a_check_finds_of_the_rotation_of_taylors_logs(self) -> None:

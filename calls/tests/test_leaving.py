@@ -134,7 +134,7 @@ class Leaving(Folder):
             self.put(f"bin/{name}", "#!/bin/sh\n", 0o755)
             self.put(f"{name}.deny", f"{OWNER}\n")
         self.assertEqual(["add the line uuspool to crontab.deny."], self.ends())
-        self.put("crontab.deny", f"{OWNER} uuspool\n")
+        self.put("crontab.deny", f"{OWNER}\nuuspool\n")
         self.assertEqual([], self.ends())
 
     def test_what_was_scheduled_before(self) -> None:
