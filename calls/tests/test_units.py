@@ -121,7 +121,7 @@ class Purged(Folder):
         for path in "var/log/uuspool/log", "var/lib/uuspool/.ssh/authorized_keys", "etc/uuspool/calls/duke":
             self.put(path)
         self.put("bin/rm", "#!/bin/sh\ncase \"$*\" in */log/*) trap '' TERM; exec sleep 100 ;; esac\nexec /bin/rm \"$@\"\n", 0o755)
-        self.put("bin/timeout", "#!/bin/sh\nshift 3\nexec /usr/bin/timeout -k 1 1 \"$@\"\n", 0o755)
+        self.put("bin/timeout", "#!/bin/sh\nshift 3\ncase \"$*\" in */log/*) exec /usr/bin/timeout -k 1 1 \"$@\" ;; esac\nexec \"$@\"\n", 0o755)
         status, said = self.purge()
         self.assertEqual((0, "uuspool: not all of these could be removed: /var/log/uuspool /var/lib/uuspool-page"), (status, said.splitlines()[-1]))
         self.assertEqual(([], []), (os.listdir(f"{self.folder}/var/lib/uuspool"), os.listdir(f"{self.folder}/etc/uuspool")))
