@@ -637,6 +637,21 @@ class Handed(Folder):
             self.assertEqual((again, {1}), (its._again, said.gone.keys() & said.lost.keys()), came)
 
 
+    def test_a_piece_of_another_user_is_no_part_of_what_is_there(self) -> None:
+        """It names 2, with which a file was delivered, or 3 or 4, which Taylor UUCP has or is just getting. If 3 counted as done, it would be
+        taken out of Taylor's spool."""
+        self.put("pieces/duke/f0/about", json.dumps({"user": "duke!ann", "came": "mysite!2!x"}))
+        self.put("taylor/phs/3.json", json.dumps({"job": f"duke!ann {DAY} 10:00:00 1 exec rmail x"}))
+        self.put("taylor/unc/begun.json", json.dumps({"numbers": [4], "jobs": [f"duke!ann {DAY} 10:00:00 1 exec rmail x"]}))
+        for user, again, gone in ("evil!x", set(), set()), ("duke!ann", {"duke/f0"}, {3, 4}):
+            marks = {2: "f0", 3: f"3-{DAY}-12:00:00", 4: f"4-{DAY}-12:00:00"}
+            forged = (line(13, 10 + of, f"exec -gN -- phs {COMMAND} 0f.1.1.{mark} 0 exec rmail x").replace(" ann ", f" {user} ") for of, mark in marks.items())
+            self.put("log", HERE + "".join(forged) + line(14, 13, "settle") + line(14, 14, "settle"))
+            its = restore.Restoration(mock.Mock(), mock.Mock(), "", mock.Mock(path=self.folder), mock.Mock(word="w", mark="0a"))
+            its._settings = Settings("mysite", "", self.folder, "", f"{self.folder}/log", "UTC0")
+            self.assertEqual((again, gone), (its._handed_on_and_lost(its._files_there()), its._read(its._handed()).gone.keys()))
+
+
 class Places(Folder):
     def setUp(self) -> None:
         super().setUp()
@@ -882,7 +897,7 @@ class Numbers(Folder):
         its = restore.Restoration(Quiet(self.folder), mock.Mock(), "", there, mock.Mock())
         its._source.name, its._is_same = "spool.db", True
         with files.opened(f"{self.folder}/spool") as its._place.handle:
-            self.assertEqual({3, 4, 7, 9}, its._handed())
+            self.assertEqual({3: "", 4: "", 7: "", 9: ""}, its._handed())
             its._fill(Target(f"{self.folder}/made"), {3, 4, 9})
         found = [it for it in ("duke", "phs", "unc") if os.path.exists(f"{self.folder}/made/taylor/{it}/begun.json")]
         self.assertEqual((["duke", "unc"], []), (found, its.faults))

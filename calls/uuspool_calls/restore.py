@@ -9,6 +9,7 @@ two spools, whole.
 root or the spool's user runs it. For root the owner of the spool's folder opens what is in it, and runs the program there."""
 import collections
 import contextlib
+import itertools
 import os
 import stat
 from collections.abc import Callable, Collection, Iterable, Iterator, Mapping, Sequence
@@ -49,6 +50,13 @@ class Gone(NamedTuple):
     job: Job
     line: logged.Line
     lost: logged.Anew | None
+
+
+class Came(NamedTuple):
+    """A file that came in pieces: the number of the job with which it was delivered, or 0, and whose it is."""
+
+    number: int
+    user: str
 
 
 class Known(NamedTuple):
@@ -177,7 +185,7 @@ class Restoration:
             if job.system == self._settings.name and (piece := Piece.of(job)):
                 parts[name_of(job)].append(job)
                 marks[job.number] = piece.name(job.user)
-        said, there = self._read({job.number for job in jobs}, marks, {job.number: job.user for job in jobs}), self._files_there()
+        said, there = self._read({job.number: job.user for job in jobs}, marks), self._files_there()
         self._again = self._handed_on_and_lost(there)
         waiting: set[int] = set()
         done: set[int] = set()
@@ -189,7 +197,7 @@ class Restoration:
                 self._finished |= {folder: self._about(its[0])} if handed_on else {}
             else:
                 waiting |= {it for it in numbers - handed_on if it in said.gone and said.gone[it].how == "done"}
-                self._again |= {folder} if handed_on and there.get(folder, 1) else set()
+                self._again |= {folder} if handed_on and (folder not in there or there[folder].number) else set()
         self._again -= self._finished.keys()
         said = said.without(gone=waiting, lost=done)
         return said._replace(gone={number: logged.Line("", "done") for number in done} | said.gone)
@@ -200,44 +208,53 @@ class Restoration:
         assert piece
         return About(piece, job.user, name, name, whole_of(job).what)
 
-    def _files_there(self) -> dict[str, int]:
-        """The files that came in pieces, as what is there says, each with the number of the job with which it was delivered, or 0. (An
-        unfinished one may have pieces that came after the copy.)"""
+    def _files_there(self) -> dict[str, Came]:
+        """The files that came in pieces, as what is there says. (An unfinished one may have pieces that came after the copy.)"""
         folder, found = f"{self._place.path}/pieces", {}
         with acting_as(self._owner):
             for path in kept_in(folder):
                 if about := files.read_record(f"{path}/{ABOUT}"):
                     number = str(about.get("came", "")).split("!")[1:2]
-                    found[path.removeprefix(f"{folder}/")] = int(number[0]) if number and is_number(number[0]) else 0
+                    its = int(number[0]) if number and is_number(number[0]) else 0
+                    found[path.removeprefix(f"{folder}/")] = Came(its, str(about.get("user", "")))
         return found
 
-    def _handed_on_and_lost(self, there: Mapping[str, int]) -> set[str]:
+    def _handed_on_and_lost(self, there: Mapping[str, Came]) -> set[str]:
         """Those of these files that were handed on since, which is lost. What came after the copy may come again."""
-        names = {number: name for name, number in there.items() if number}
+        names = {its.number: name for name, its in there.items() if its.number}
         if not names:
             return set()
-        said = self._read(names.keys(), {number: os.path.basename(name) for number, name in names.items()})
+        users = {number: there[name].user for number, name in names.items()}
+        said = self._read(users, {number: os.path.basename(name) for number, name in names.items()})
         return {names[number] for number in said.handed_on - (said.gone.keys() - said.lost.keys())}
 
-    def _read(self, jobs: Collection[int], marks: Mapping[int, str] = MappingProxyType({}), users: Mapping[int, str] = MappingProxyType({})) -> logged.Said:
+    def _read(self, users: Mapping[int, str], marks: Mapping[int, str] = MappingProxyType({})) -> logged.Said:
         """What the log says of jobs of these users since the copy was made. Some of them brought pieces of files here, which have these marks."""
         times = [it.word for it in self._times]
-        return logged.read(self._settings.log, self._owner, self._source.word, self._source.mark, jobs, times, marks, users)
+        return logged.read(self._settings.log, self._owner, self._source.word, self._source.mark, users.keys(), times, marks, users)
 
-    def _handed(self) -> set[int]:
-        """The jobs of which notes say that Taylor UUCP has them, or may have them."""
+    def _handed(self) -> dict[int, str]:
+        """The jobs of which notes say that Taylor UUCP has them, or may have them, and whose they are."""
         folder = f"{self._place.path}/taylor"
+        users = {number: user for its in self._being_handed().values() for number, user in its.items()}
         with acting_as(self._owner):
-            names = [name.removesuffix(".json") for system in files.names_in(folder) for name in files.names_in(f"{folder}/{system}")]
-        return {int(it) for it in names if is_number(it)}.union(*self._being_handed().values())
+            for system in files.names_in(folder):
+                for name in files.names_in(f"{folder}/{system}"):
+                    if is_number(number := name.removesuffix(".json")):
+                        users[int(number)] = _user_of(files.read_record(f"{folder}/{system}/{name}").get("job"))
+        return users
 
-    def _being_handed(self) -> dict[str, set[int]]:
-        """The notes of calls that were stopped while they handed jobs to Taylor UUCP, and the jobs of each."""
-        folder = f"{self._place.path}/taylor"
+    def _being_handed(self) -> dict[str, dict[int, str]]:
+        """The notes of calls that were stopped while they handed jobs to Taylor UUCP, and the jobs of each, and whose they are."""
+        folder, found = f"{self._place.path}/taylor", {}
         with acting_as(self._owner):
             paths = [path for system in files.names_in(folder) if os.path.exists(path := f"{folder}/{system}/begun.json")]
-            numbers = {path: files.read_record(path).get("numbers") for path in paths}
-        return {path: {it for it in its if isinstance(it, int)} for path, its in numbers.items() if isinstance(its, list)}
+            for path in paths:
+                numbers, jobs = map(files.read_record(path).get, ("numbers", "jobs"))
+                if isinstance(numbers, list):
+                    its = itertools.zip_longest(numbers, jobs if isinstance(jobs, list) else ())
+                    found[path] = {number: _user_of(job) for number, job in its if isinstance(number, int)}
+        return found
 
     def _begun(self, room: Target, name: str) -> Target:
         """A new folder for a spool, with settings for it."""
@@ -372,7 +389,7 @@ class Restoration:
         names = {it for it in os.listdir(self._place.handle) if self._is_carried(it)}
         again = [f"pieces/{it}" for it in sorted(self._again)]
         without = [f"{self._place.path}/pieces/{it}" for it in self._again | self._finished.keys()]
-        lost = [path for path, numbers in self._being_handed().items() if not numbers.issubset(known)]
+        lost = [path for path, its in self._being_handed().items() if not its.keys() <= set(known)]
         with Copier([self._place.seen.st_uid], self._owner, [*without, *lost]) as copier:
             for name in sorted(names):
                 self._carry(name, made, copier, known)
@@ -438,6 +455,11 @@ class Restoration:
             self._session.print(line)
         self._session.print(f"the next job gets {number} or a later number")
         self._session.print(f"the spool that was there is in {path}")
+
+
+def _user_of(job: object) -> str:
+    """Whose a job is, as a note says it. (Nobody's, if that says nothing: then no piece counts for it.)"""
+    return str(job or "").partition(" ")[0]
 
 
 def _system_of(lost: logged.Anew) -> str:
