@@ -188,6 +188,14 @@ class Public(Folder):
         self.assertEqual(["~/x", "~/x.2", "~/x.2", "~/x", "~/x.2"], names)
         self.assertEqual(["new", "", "new", "new", "", "new"], [self.bytes_of(it).decode() for it in ("own/x", "shared/x", "shared/x.2", "common/gem/x", "common/x", "common/x.2")])
 
+    def test_no_user_of_this_site_is_alone_in_a_folder_of_its_own(self) -> None:
+        own = self.put("own/there").removesuffix("/there")
+        table = self.put("etc/public", f"mysite {own}\n")
+        for user in "ann", "bob":
+            with memory_file(user.encode()) as content:
+                public.find(f"{self.folder}/public", table, "", "mysite").put("~/x", content)
+        self.assertEqual((b"ann", b"bob"), (self.bytes_of("own/x"), self.bytes_of("own/x.2")))
+
     def test_nothing_comes_where_files_of_another_come(self) -> None:
         with memory_file(b"x") as content:
             for name in "duke", "gem":

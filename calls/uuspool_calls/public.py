@@ -54,7 +54,8 @@ def has_number(name: str) -> bool:
 
 def find(environment_folder: str, table: str, neighbour: str, own: str) -> "Public":
     """The public folder as a neighbour has it, or this site itself, if there is none: that of its last line in a
-    table, or else one of its name in the common folder. Jobs of this site go to the common folder."""
+    table, or else one of its name in the common folder. Jobs of this site go to the common folder. They are of many users, none of whom is
+    alone there."""
     common, folders = environment_folder or _COMMON, read(table)
     others = [_plain(folder) for name, folder in folders.items() if name not in (neighbour, own)]
     folder = folders.get(neighbour or own)
@@ -62,7 +63,7 @@ def find(environment_folder: str, table: str, neighbour: str, own: str) -> "Publ
         return Public(common, own, neighbour, others=others, is_common=not neighbour)
     all_of_them = [*map(_plain, (*folders.values(), common))]
     is_common = _plain(folder) == _plain(common)
-    return Public(folder, own, is_alone=all_of_them.count(_plain(folder)) == 1, others=others, is_common=is_common)
+    return Public(folder, own, is_alone=bool(neighbour) and all_of_them.count(_plain(folder)) == 1, others=others, is_common=is_common)
 
 
 def read(table: str) -> dict[str, str]:
