@@ -2,6 +2,7 @@
 
 Taylor's uux reads its words again, as a shell would, and asks the neighbour for a shell if one has a sign of shells.
 So a job with such a word is refused here. A word in parentheses is one word for it."""
+import contextlib
 import re
 
 from . import forward
@@ -9,7 +10,7 @@ from .errors import Refusal
 from .jobs import MAIL, REQUEST, Job, Wishes
 from .texts import is_name
 from .pieces import COMMAND
-from .public import SETTINGS
+from .public import SETTINGS, inside
 from .values import NamedTuple
 
 _ANSWER = "uuspool-answer"  # takes a bundle
@@ -46,6 +47,13 @@ class Errand(NamedTuple):
         """The name that the log has of a job that uustat lists so, or nothing if that doesn't say it."""
         match = self.waits.match(what)
         return match[1] if match and self.waits.groups else ""
+
+
+def fetches(job: Job) -> tuple[str, ...]:
+    """What a request names in Taylor's log: the file at its origin, and where it comes to. Nothing, if the job is none that goes."""
+    with contextlib.suppress(Refusal):
+        return Errand.of(job, "").words[-2:] if plain(job)[0].kind == "request" else ()
+    return ()
 
 
 def plain(job: Job) -> tuple[Job, Wishes]:
@@ -99,7 +107,13 @@ def _sending(job: Job, path: str, notify: str) -> Errand:
 
 
 def _request(job: Job) -> Errand:
+    """A file that is fetched. It comes to a folder of its user, because Taylor replaces whatever is there."""
     origin, to = (_path(word, job.system) for word in job.words)
+    if not is_name(job.user):
+        raise Refusal(f"Taylor UUCP fetches a file into a folder of its user, and there is none of such a name: {job.user}")
+    if (below := inside(to)) is None:
+        raise Refusal(f"a file that is fetched comes below the public folder alone (~/NAME), not to {to}")
+    to = f"~/{job.user}/{below}"
     if SETTINGS in (origin.rpartition("/")[2], to.rpartition("/")[2]):
         raise Refusal(f"no file {SETTINGS} comes here, because whoever works in its folder would go by it")
     if not frozenset("*?[").isdisjoint(origin):

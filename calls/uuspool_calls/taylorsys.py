@@ -3,6 +3,7 @@ that waits in Taylor's spool would be queued here instead.
 
 Keywords of ports, chats and protocols stay in Taylor's files, and nothing is said of them. An alternate is another way
 to make the same call, so its times are times of the system."""
+import os
 import re
 import shlex
 from collections.abc import Iterator, Sequence
@@ -186,13 +187,15 @@ def queued_here(library: str, spool: str, owner: str, job: Waiting) -> str:
 
 
 def _task(words: Sequence[str]) -> tuple[list[str], str]:
-    """The kind and the words of a job here, and the file of its bytes, for a line of Taylor's. (A bundle is no job.)"""
+    """The kind and the words of a job here, and the file of its bytes, for a line of Taylor's. (A bundle is no job. What is fetched comes
+    below the public folder alone.)"""
     if words[:1] == ["E"] and len(words) > 9 and is_name(words[5]) and words[9] != _ANSWER:
         return ["exec", *words[9:]], words[5]
     if words[:1] == ["S"] and len(words) > 6 and not words[2].startswith(("X.", "D.")) and "C" in words[4] and is_name(words[5]):
         return ["send", words[1], words[2]], words[5]
     if words[:1] == ["R"] and len(words) > 4:
-        return ["request", words[1], words[2]], ""
+        to = words[2] if words[2].startswith("~/") else f"~/{os.path.basename(words[2]) or os.path.basename(words[1])}"
+        return ["request", words[1], to], ""
     return [], ""
 
 
