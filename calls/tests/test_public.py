@@ -273,6 +273,16 @@ class Public(Folder):
         self.assertEqual(["duke's", "duke's", "duke's", "duke's"], [asked["duke", it] for it in ("~/for-all/x", "~/y", "~/duke/y", "~/link")])
         self.assertEqual(["all", "mysite has no file ~/y", "~/duke/y came", "~/link came"], [asked["unc", it] for it in ("~/for-all/x", "~/y", "~/duke/y", "~/link")])
 
+    def test_what_a_neighbour_of_a_site_with_the_public_folder_above_may_fetch(self) -> None:
+        second = public.Public(os.path.dirname(self.put("public/second/x", "all")), "second", "duke")
+        with memory_file(b"duke's") as content:
+            second.put("~/a/y", content)
+        for its in public.Public(f"{self.folder}/public", "first", "duke"), public.Public(f"{self.folder}/public", "first"):
+            with its.opened("~/second/x") as content:
+                self.assertEqual(b"all", os.read(content, 9))
+            with self.assertRaisesRegex(Refusal, "~/second/duke/a/y came to first from second/duke"), its.opened("~/second/duke/a/y"):
+                pass
+
     def test_what_a_neighbour_of_another_site_may_fetch(self) -> None:
         """(Two sites of a machine have one public folder, unless one has another.)"""
         with memory_file(b"duke's") as content:

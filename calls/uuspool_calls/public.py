@@ -7,6 +7,7 @@ itself, but none that somebody besides root and this user could put there. A new
 and takes that of no file of another owner or sender: a number is added."""
 import contextlib
 import errno
+import itertools
 import os
 import stat
 from collections.abc import Callable, Iterator, Sequence
@@ -245,11 +246,11 @@ class Public:
             place, home = _place_of(handle), f"{_place_of(top)}/"
             if not place.startswith(home):
                 raise Refusal(f"{path} leads out of the public folder of {self._own}")
-            first = place.removeprefix(home).split("/")[0]
+            on_the_way = itertools.accumulate(place.removeprefix(home).split("/")[:-1], "{}/{}".format)
             if any(it.startswith(home) and place.startswith(f"{it}/") for it in self._others):
                 raise Refusal(f"{path} came to {self._own} from another neighbour")
-            if first != self._neighbour and _is_neighbours(top, first):
-                raise Refusal(f"{path} came to {self._own} from {first}, and is for no other neighbour")
+            if other := next((it for it in on_the_way if it != self._neighbour and _is_neighbours(top, it)), ""):
+                raise Refusal(f"{path} came to {self._own} from {other}, and is for no other neighbour")
             yield handle
 
     def _open(self, top: int, path: str, below: str) -> int:
