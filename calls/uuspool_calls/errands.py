@@ -184,8 +184,9 @@ def fetched(job: Job, name: str) -> tuple[str, ...]:
 
 
 def was_queued(said: list[str], name: str) -> bool:
-    """Whether the log has the line with which it named a job."""
-    return any(text.startswith("Queuing ") and name in text for text in said)
+    """Whether the log has the line with which it named a job. (Other users' paths may have that name in them.)"""
+    names = re.compile(rf"Queuing (request of {re.escape(name)}\Z|send of {re.escape(name)} to |.* \({re.escape(name)}\)\Z)")
+    return any(map(names.match, said))
 
 
 def _went(text: str, job: Job, names: _Names) -> bool:
