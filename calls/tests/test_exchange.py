@@ -433,6 +433,14 @@ class Refusing(Folder):
         self.assertTrue(forget_excess(self.site))
         self.assertEqual(["2", "3", "5"], sorted(it for it in os.listdir(f"{self.folder}/refused") if it[0] != "."))
 
+    def test_all_addresses_of_strangers_have_one_share(self) -> None:
+        for number, user in enumerate(("a@x", "ann", "b@x", "c@y", "duke!d@x", "e@x"), 1):
+            self.refuse_one(parcel(LINE.replace("7", str(number), 1).replace("ann", user)), "no")
+            os.utime(f"{self.folder}/refused/{number}.untold", (number * 86400,) * 2)
+        self.site.session.environment |= {"UUSPOOL_REFUSED_MEGABYTES": "0"}
+        self.assertTrue(forget_excess(self.site))
+        self.assertEqual((["2", "5", "6"], 5), (sorted(it for it in os.listdir(f"{self.folder}/refused") if it[0] != "."), len(self.site.session.processes.ran)))
+
     def test_when_it_is_looked_how_old_things_are(self) -> None:
         looked = []
         for hours in 0, 0.5, 1.6, 10 * 8766, 10 * 8766 + 0.5, 10 * 8766 + 1.6, 3, 3.5, 4.1, 500:

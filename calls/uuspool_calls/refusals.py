@@ -203,6 +203,12 @@ class Kept(NamedTuple):
         """Whose letters count together: a local user, or a neighbour."""
         return f"{self.job.sender}!" if self.job.sender else self.job.user
 
+    @property
+    def share(self) -> str:
+        """Whose room it takes: that of a local user, of a neighbour, or of all addresses whose mail a mailer queued, because a stranger may have
+        any number of these."""
+        return "@" if "@" in self.job.user and not self.job.sender else self.who
+
     def key(self, own: str) -> str:
         """Under what a letter about it is queued once."""
         return f"{own}!{self.number}!refused" if self.number is not None else ""
@@ -301,8 +307,8 @@ def forget_old(site: Site, is_old: IsOld) -> None:
 
 
 def forget_excess(site: Site) -> bool:
-    """Removes the oldest of a neighbour or a local user that fills the disk, but not the newest. Nothing is removed before its
-    user was told: whether nothing waits for that."""
+    """Removes the oldest of a neighbour or a local user that fills the disk, or of all addresses, but not the newest. Nothing is removed before
+    its user was told: whether nothing waits for that."""
     most = site.session.setting("UUSPOOL_REFUSED_MEGABYTES", _MEGABYTES) << 20
     folder = f"{site.folder}/refused"
     if _size(newest_first(folder)) <= most:  # (Reading whose they are takes longer.)
@@ -312,7 +318,7 @@ def forget_excess(site: Site) -> bool:
     all_told = True
     for path, _, size in newest_first(folder):
         kept = Kept.read(path)
-        who = kept.who if kept else ""
+        who = kept.share if kept else ""
         is_newest = not sums[who]
         sums[who] += size
         if sums[who] <= most or is_newest:
