@@ -126,6 +126,8 @@ class Records(Folder):
         users = ["unc!a", "unc!b", "duke!c", "unc!d", "ann", "duke!e"]
         jobs = [Job.read(LINE.replace("7", str(at), 1).replace("ann", user)) for at, user in enumerate(users)]
         self.assertEqual([0, 2, 4, 1, 5, 3], [it.number for it in deliver.by_turns(jobs)])
+        jobs = [Job.read(LINE.replace("7", str(at), 1).replace("ann", user)) for at, user in enumerate(["mel", "mel", "a@x", "b@x", "ann"])]
+        self.assertEqual([0, 2, 4, 1, 3], [it.number for it in deliver.by_turns(jobs)])
 
 
 class Brought(Folder):

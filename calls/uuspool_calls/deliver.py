@@ -158,12 +158,12 @@ def due(site: Site, waiting: Sequence[Job], now: int) -> list[int]:
 
 
 def by_turns(jobs: Sequence[Job]) -> list[Job]:
-    """The jobs in an order in which each sender has one before any has its second, and so on."""
+    """The jobs in an order in which each neighbour and each local user has one before any has its second, and so on."""
     counts: collections.Counter[str] = collections.Counter()
     turns = []
     for job in jobs:
-        turns.append((counts[job.sender], job))
-        counts[job.sender] += 1
+        turns.append((counts[job.party], job))
+        counts[job.party] += 1
     return [job for _, job in sorted(turns, key=lambda turn: turn[0])]
 
 

@@ -44,6 +44,12 @@ class Job(NamedTuple):
         return self.user.partition("!")[0] if "!" in self.user else ""
 
     @property
+    def party(self) -> str:
+        """Who has one share of what all have: a neighbour, a local user, or all addresses whose mail a mailer queued, because a stranger may
+        have any number of these."""
+        return f"{self.sender}!" if self.sender else "@" if "@" in self.user else self.user
+
+    @property
     def is_letter(self) -> bool:
         """Whether it is a letter of a site, about which nobody gets a letter."""
         return self.user.endswith("MAILER-DAEMON")

@@ -203,12 +203,6 @@ class Kept(NamedTuple):
         """Whose letters count together: a local user, or a neighbour."""
         return f"{self.job.sender}!" if self.job.sender else self.job.user
 
-    @property
-    def share(self) -> str:
-        """Whose room it takes: that of a local user, of a neighbour, or of all addresses whose mail a mailer queued, because a stranger may have
-        any number of these."""
-        return "@" if "@" in self.job.user and not self.job.sender else self.who
-
     def key(self, own: str) -> str:
         """Under what a letter about it is queued once."""
         return f"{own}!{self.number}!refused" if self.number is not None else ""
@@ -318,7 +312,7 @@ def forget_excess(site: Site) -> bool:
     all_told = True
     for path, _, size in newest_first(folder):
         kept = Kept.read(path)
-        who = kept.share if kept else ""
+        who = kept.job.party if kept else ""
         is_newest = not sums[who]
         sums[who] += size
         if sums[who] <= most or is_newest:
