@@ -176,6 +176,20 @@ class Log(Folder):
             said = logged.read(f"{self.folder}/log", "", "w", "0a", [1, 2], users={1: user})
             self.assertEqual(gone, said.gone.keys() - said.lost.keys())
 
+    def test_a_piece_of_another_user_says_nothing_of_a_piece(self) -> None:
+        """1 was handed on as 11 and 12, which are lost. Other pieces name these. (3 was moved, and so is 13.)"""
+
+        def piece(number: int, of: int, at: int, size: int, user: str) -> str:
+            return line(13, number, f"exec -gN -- phs uuspool-piece {'0a' * 32}.{size}.1.{of}-{DAY}-12:00:00 {at} exec rmail x").replace("ann", user)
+
+        moved = line(12, 13, "exec -gN --once=mysite!3!again -- phs rmail x").replace("ann", "unc!joe") + line(12, 3, "kill")
+        handed_on = "".join(piece(11 + at, 1, at, 2, "unc!joe") for at in (0, 1)) + line(14, 1, "done mysite") + moved
+        for user, lost in ("evil!x", {1, 3}), ("unc!joe", set()):
+            others = "".join(piece(20 + of, of, 0, 1, user) + line(15, 20 + of, "settle phs") for of in (11, 12, 13))
+            self.put("log", HERE + handed_on + others)
+            said = logged.read(f"{self.folder}/log", "", "w", "0a", [1, 3], users={1: "unc!joe", 3: "unc!joe"})
+            self.assertEqual(lost, said.lost.keys())
+
     def test_a_piece_that_is_kept_says_nothing_of_its_file(self) -> None:
         """1 and 2 brought pieces of a file. 1 had it handed on, and after a restoration 2 did."""
         first = line(13, 11, "exec -gN --once=mysite!1!onward -- phs rmail joe") + line(14, 1, "done mysite") + line(14, 2, "done mysite")

@@ -141,6 +141,8 @@ class _Reading:
     def _take_job(self, number: int, words: list[bytes]) -> None:
         if of := self._parts.take(number, words, self._may_be_part):
             self._open.add((of, b"done"))
+            if number in self._parts.numbers:
+                self._users.setdefault(number, words[3])
         elif found := _stands_for(words):
             of, anew = found
             is_known = len(self._stands_for) < _MOST_ANEW  # (Otherwise the other one waits.)
@@ -159,7 +161,7 @@ class _Reading:
 
     def _may_be_part(self, number: int, user: bytes) -> bool:
         """Whether a piece of this user may be one in which the job was handed on. (A piece that is refused, and then queued again by hand, names
-        any job.)"""
+        any job, also one that is a piece itself.)"""
         users = {self._users.get(it, user) for it in (number, self._first(number))}
         return users == {user} and (number in self._jobs or self._is_followed(number))
 
