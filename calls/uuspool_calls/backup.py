@@ -23,7 +23,7 @@ from .processes import Program
 from .session import Session, acting_as, user_name
 from .site import find_from_anywhere, has_bytes, owner_of
 from .source import BESIDE, MARK, MOST_OF_A_TEXT, is_kept
-from .texts import is_number, one_line
+from .texts import is_number, one_line, typed
 
 _USAGE = "usage: uuspool-backup [-k COPIES] DIR"
 _NEW = ".new"
@@ -224,7 +224,7 @@ class Backup:
         except FileNotFoundError:
             return
         except OSError as error:
-            raise Failure(LATER, f"{journal}, a file of sqlite3, can't be read: {error.strerror}: have {self._owner} move it away") from None
+            raise Failure(LATER, f"{typed(journal)}, a file of sqlite3, can't be read: {error.strerror}: have {self._owner} move it away") from None
         with files.closing(handle):
             if (os.pread(handle, 1, 0) or b"\0") != b"\0":
                 raise Failure(LATER, f"{journal} was left by sqlite3: open the spool once with sqlite3")
