@@ -61,12 +61,12 @@ class KeyFiles:
             raise Failure(LATER, f"cannot write {self.path(neighbour)}: {error.strerror}") from None
 
     def _make_folder(self) -> None:
-        """Makes the folder as its owner. If the owner may not make it there, root makes it beside the settings, and
-        gives away what it opened. (Elsewhere it might give the owner a folder that somebody else obeys.)"""
+        """Makes the folder as its owner. If the owner may not make it there, root makes the one that the pages name, and
+        gives away what it opened. (Another one might be obeyed by somebody else, such as /etc/uuspool/calls, or one behind a link and `../`.)"""
         with contextlib.suppress(PermissionError), acting_as(self._owner):
             os.makedirs(self.folder, mode=0o700)
             return
-        if os.geteuid() or os.path.dirname(os.path.normpath(self.folder)) != self._etc:
+        if os.geteuid() or self.folder != f"{self._etc}/seals":
             raise Failure(NOT_SET_UP, f"{self._owner} cannot make {self.folder}, the folder for keys: let the settings say seals = \"{self._etc}/seals\"")
         os.makedirs(self.folder, mode=0o700)
         handle = os.open(self.folder, os.O_RDONLY | os.O_DIRECTORY | os.O_NOFOLLOW)
