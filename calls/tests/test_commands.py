@@ -480,6 +480,16 @@ class Small(Folder):
             looks._check_settings_below(f"{self.folder}/public")
         self.assertEqual(paths[:2] + [f"{self.folder}/public has 4 folders or more, so not all of them were looked at. What is called uuspool.toml may be in others."], [line.partition(": ")[0] for line in session.printed[3:]])
 
+    def test_a_shell_runs_no_name_of_a_folder_in_which_root_removes_settings(self) -> None:
+        for name, mode in ("$(id)", 0o755), ("a;id", 0o777):
+            self.put(f"public/{name}/uuspool.toml")
+            os.chmod(f"{self.folder}/public/{name}", mode)
+        session = Quiet(self.folder)
+        looks = check.Check(session)
+        looks._owner = pwd.getpwuid(os.geteuid()).pw_name
+        looks._check_settings_below(f"{self.folder}/public")
+        self.assertEqual([f"'{self.folder}/public/$(id)/uuspool.toml'", f"'{self.folder}/public/a;id'"], [line.partition(":")[0] for line in session.printed])
+
     def test_root_removes_nothing_in_folders_of_others(self) -> None:
         """Who may write such a folder, or has it, may put a link to one of root's in its place."""
         for name, mode in ("", 0o777), ("written", 0o775), ("theirs", 0o755), ("own", 0o755), ("theirs/own", 0o755):

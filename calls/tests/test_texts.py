@@ -22,6 +22,10 @@ class Texts(unittest.TestCase):
         self.assertEqual("x" * 300, texts.plain(b"x" * 400))
         self.assertEqual("??", texts.printable("é"))
 
+    def test_a_path_is_typed_as_one_word(self) -> None:
+        for path, shown in ("/a/b-c.d", "/a/b-c.d"), ("/a/$(id)", "'/a/$(id)'"), ("/a b\n;c", "'/a b?;c'"), ("/é'", "'/??'\"'\"''"):
+            self.assertEqual(shown, texts.typed(path))
+
     def test_one_line(self) -> None:
         self.assertEqual("uuspool: spool: store no space", texts.one_line(b"uuspool: spool: store\nuuspool: cause: no space\n"))
 

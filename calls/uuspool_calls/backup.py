@@ -23,7 +23,7 @@ from .processes import Program
 from .session import Session, acting_as, user_name
 from .site import find_from_anywhere, has_bytes, owner_of
 from .source import BESIDE, MARK, MOST_OF_A_TEXT, is_kept
-from .texts import is_number, one_line
+from .texts import is_number, one_line, typed
 
 _USAGE = "usage: uuspool-backup [-k COPIES] DIR"
 _NEW = ".new"
@@ -170,7 +170,7 @@ class Backup:
             self._expect_word(spool)
             self._take_others(target)
             self._session.processes.check()
-            self._check(f"{self._place.path}/{chosen}{_NEW}/spool")
+            self._check(spool)
             spool.put_text(MARK, f"{mark} {self._sizes(spool)}\n", seen)
             target.sync()
             self._session.processes.check()
@@ -224,7 +224,7 @@ class Backup:
         except FileNotFoundError:
             return
         except OSError as error:
-            raise Failure(LATER, f"{journal}, a file of sqlite3, can't be read: {error.strerror}: have {self._owner} move it away") from None
+            raise Failure(LATER, f"{typed(journal)}, a file of sqlite3, can't be read: {error.strerror}: have {self._owner} move it away") from None
         with files.closing(handle):
             if (os.pread(handle, 1, 0) or b"\0") != b"\0":
                 raise Failure(LATER, f"{journal} was left by sqlite3: open the spool once with sqlite3")
@@ -254,16 +254,20 @@ class Backup:
         copier.finish()
         self.left_out += copier.left_out
 
-    def _check(self, folder: str) -> None:
+    def _check(self, target: Target) -> None:
         """Has the program read each row of the copy. A wrong one is in the spool, too, and no reason to have no copy. (The
-        spool's user may have named the file so that TOML would read another path in it.)"""
+        spool's user may have named the file so that TOML would read another path in it. Whoever may write a folder on the way may
+        have put another one in the place of this, so no path counts.)"""
         import json  # (takes long to load)
 
         name = os.path.basename(self._settings.spool)
-        files.replace(f"{folder}/{_CHECK}", f"name = {json.dumps(self._settings.name)}\nspool = {json.dumps(name, ensure_ascii=False)}\n".encode())
+        text = f"name = {json.dumps(self._settings.name)}\nspool = {json.dumps(name, ensure_ascii=False)}\n"
+        target.put_text(_CHECK, text, os.fstat(target.handle))
         environment = {key: value for key, value in self._session.environment.items() if key != "UUSPOOL_DIR"}
-        ended = self._session.processes.run(Program([self._session.program, "-c", _CHECK, "status"], folder, environment), joined=True)
+        line = [self._session.program, "-c", _CHECK, "status"]
+        ended = self._session.processes.run(Program(line, "", environment, first=lambda: os.fchdir(target.handle)), joined=True)
         for made in _CHECK, f"{name}-lock", f"{name}-reserve", "log":
-            files.remove(f"{folder}/{made}")
+            with contextlib.suppress(FileNotFoundError):
+                os.unlink(made, dir_fd=target.handle)
         if ended.status:
             self.faults.append(f"the spool of the copy cannot be opened: {one_line(ended.output)}")

@@ -6,7 +6,7 @@ from collections.abc import Iterator
 
 from . import clock, files
 from .errors import LATER, Failure
-from .texts import is_name
+from .texts import is_name, typed
 from .values import NamedTuple
 
 _END = ".json"
@@ -44,7 +44,7 @@ class Contacts:
         path = f"{self._folder}/{neighbour}{_END}"
         text = files.read_bytes(path, _MOST + 1) or b""
         if len(text) > _MOST:
-            what = f"{path} has more than {_MOST >> 10} KiB, so these commands did not write it"
+            what = f"{typed(path)} has more than {_MOST >> 10} KiB, so these commands did not write it"
             # (Its folder may be a link to one of root's by then, where this user can remove nothing.)
             raise Failure(LATER, f"{what}: remove it as the spool's user, and hold {neighbour} again if it was held")
         kept, usual = files.record_in(text), Contact._field_defaults

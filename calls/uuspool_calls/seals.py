@@ -9,6 +9,7 @@ from collections.abc import Iterator, Sequence
 from . import carriers, files, settings
 from .errors import LATER, NOT_SET_UP, USAGE, Failure
 from .session import Session, acting_as, line_as, numbers_of, user_name
+from .texts import typed
 
 _KEY = re.compile("[0-9a-fA-F]{64}")
 _UNSEALED = "unsealed"
@@ -60,12 +61,12 @@ class KeyFiles:
             raise Failure(LATER, f"cannot write {self.path(neighbour)}: {error.strerror}") from None
 
     def _make_folder(self) -> None:
-        """Makes the folder as its owner. If the owner may not make it there, root makes it beside the settings, and
-        gives away what it opened. (Elsewhere it might give the owner a folder that somebody else obeys.)"""
+        """Makes the folder as its owner. If the owner may not make it there, root makes the one that the pages name, and
+        gives away what it opened. (Another one might be obeyed by somebody else, such as /etc/uuspool/calls, or one behind a link and `../`.)"""
         with contextlib.suppress(PermissionError), acting_as(self._owner):
             os.makedirs(self.folder, mode=0o700)
             return
-        if os.geteuid() or os.path.dirname(os.path.normpath(self.folder)) != self._etc:
+        if os.geteuid() or self.folder != f"{self._etc}/seals":
             raise Failure(NOT_SET_UP, f"{self._owner} cannot make {self.folder}, the folder for keys: let the settings say seals = \"{self._etc}/seals\"")
         os.makedirs(self.folder, mode=0o700)
         handle = os.open(self.folder, os.O_RDONLY | os.O_DIRECTORY | os.O_NOFOLLOW)
@@ -79,13 +80,13 @@ class KeyFiles:
 
     def faults(self, neighbour: str, has_plain_taylor: bool = False) -> Iterator[str]:
         """What is wrong with the file of a neighbour, and what to do. One that has Taylor UUCP alone needs none."""
-        path = self.path(neighbour)
+        path = typed(self.path(neighbour))
         if has_plain_taylor:
             if self.keys(neighbour):
                 yield f"{path} has a key, and {neighbour} has Taylor UUCP alone, so that nothing it sends is taken: {self._removal}."
             return
         try:
-            seen = os.lstat(path)
+            seen = os.lstat(self.path(neighbour))
         except OSError as error:
             yield (
                 f"{path}: {error.strerror}, so no bundle goes to {neighbour} or comes from it: uuspool-setup {neighbour} seal makes a key, "
@@ -96,7 +97,7 @@ class KeyFiles:
             yield f"{path} is no file, but perhaps a link: {self._removal}."
             return
         if user_name(seen.st_uid) != self._owner or seen.st_mode & _PRIVATE:
-            yield f"{path} has to be {self._owner}'s alone: {giving(path, self._owner) if self._is_named_by_root else self._removal}"
+            yield f"{path} has to be {self._owner}'s alone: {giving(self.path(neighbour), self._owner) if self._is_named_by_root else self._removal}"
             return
         if not self.keys(neighbour) and not self.is_unsealed(neighbour):
             yield f"{path} has no key of 64 hex digits: uuspool-setup {neighbour} seal adds one."
@@ -104,7 +105,8 @@ class KeyFiles:
 
 def giving(path: str, owner: str) -> str:
     """The lines by which root gives a user a file in a folder of this user's, who may put a link there meanwhile."""
-    return f"chown -h {owner} {path}; {line_as(owner, f'chmod 600 {path}')}"
+    its = typed(path)
+    return f"chown -h {owner} {its}; {line_as(owner, f'chmod 600 {its}')}"
 
 
 def key_in(text: bytes) -> str:

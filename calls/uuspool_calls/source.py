@@ -10,6 +10,7 @@ from . import files, turn
 from .copies import Copier, Target
 from .errors import LATER, USAGE, Failure
 from .settings import Settings
+from .texts import typed
 
 MARK = "copied"  # a file of the copy, which has the word by which the log says where it was made
 BESIDE = ("calls", "deliver", "refused", "moves", "pieces")  # the folders of a copy that are kept beside the spool
@@ -104,7 +105,7 @@ class Source:
             raise Failure(LATER, f"{self.path}/spool/{name}: {error.strerror}") from None
         if (owner := os.fstat(handle).st_uid) != self._owner:
             os.close(handle)
-            raise Failure(LATER, f"{self.path}/spool/{name} belongs to user {owner}, not {self._owner}: correct it by chown -h")
+            raise Failure(LATER, f"{typed(f'{self.path}/spool/{name}')} belongs to user {owner}, not {self._owner}: correct it by chown -h")
         return handle
 
     def text(self, name: str) -> str:

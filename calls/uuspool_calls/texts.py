@@ -35,6 +35,13 @@ def printable(text: bytes | str) -> str:
     return "".join(chr(byte) if 32 <= byte < 127 else "?" for byte in data)
 
 
+def typed(path: str) -> str:
+    """A path in a sentence that has somebody type it. A shell reads it as one word, whoever made or named what is there."""
+    import shlex  # (takes long to load)
+
+    return shlex.quote(printable(path))
+
+
 def plain(text: bytes) -> str:
     """The first line of a text from outside, at most 300 bytes of it, in printable characters."""
     return printable(text[:300].partition(b"\n")[0])
