@@ -51,6 +51,15 @@ class Seals(Folder):
         *_, key, _ = self.add()
         self.assertEqual([KEY, OTHER, key], self.keys.keys("duke"))
 
+    def test_a_file_that_the_program_does_not_take(self) -> None:
+        """Each of these lines ends a line of the program with an error."""
+        odd = f"{self.folder}/keys/duke has a line that is no key, or more than a thousand, so no bundle"
+        for text in KEY, f"{KEY}\r\n", f"{KEY}\n\n", f"# key\n{KEY}\n", f"{KEY}\nunsealed\n", f"{KEY}\x1c{OTHER}\n", f"{KEY}\n" * 1001:
+            self.put("keys/duke", text, 0o600)
+            self.assertEqual([odd], [it.partition(" goes")[0] for it in self.keys.faults("duke")], text[:80])
+        self.put("keys/duke", f"{KEY}\n" * 1000, 0o600)
+        self.assertEqual([], list(self.keys.faults("duke")))
+
     def test_a_neighbour_without_a_seal(self) -> None:
         self.add("none")
         self.assertTrue(self.keys.is_unsealed("duke"))

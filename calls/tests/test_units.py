@@ -7,10 +7,11 @@ import pwd
 import re
 import shutil
 import subprocess
+import sys
 import unittest
 from unittest import mock
 
-from uuspool_calls import bundle, check, cli, files, units
+from uuspool_calls import bundle, check, cli, files, processes, units
 from uuspool_calls.errors import Stopped
 from uuspool_calls.processes import kill_group
 
@@ -65,6 +66,24 @@ class Units(unittest.TestCase):
         for name in "night", "expire", "metrics":
             with open(f"{TOP}/examples/uuspool-{name}.service", encoding="utf-8") as file:
                 self.assertIn(f"\nSuccessExitStatus={status}\n", file.read(), name)
+
+
+    def test_figures_say_that_what_they_ask_hangs(self) -> None:
+        """What doesn't answer is ended before systemd ends all, also if it takes no notice at first."""
+        with open(f"{TOP}/examples/uuspool-metrics.service", encoding="utf-8") as file:
+            text = file.read()
+        limit, timeout = (int(re.findall(f"(?m)^{key}=(.*)$", text)[0]) for key in ("Environment=UUSPOOL_CALL_LIMIT", "TimeoutStartSec"))
+        self.assertLess(limit + processes._GRACE + processes._MARGIN, timeout)
+
+    @unittest.skipUnless(os.geteuid() == 0 and shutil.which("setpriv"), "only root runs a program as another user, and gives up rights before")
+    def test_figures_end_what_another_user_runs(self) -> None:
+        """What prints without end is ended with the rights that the unit leaves."""
+        with open(f"{TOP}/examples/uuspool-metrics.service", encoding="utf-8") as file:
+            rights = re.findall("(?m)^CapabilityBoundingSet=(.*)$", file.read())[0].lower().replace("cap_", "+").split()
+        script = "import sys\nfrom uuspool_calls import cli\nsys.exit(cli.main('x', lambda session, words: session.run_as('daemon', words).status))"
+        words = ["setpriv", "--bounding-set", ",".join(["-all", *rights]), sys.executable, "-c", script, "yes"]
+        ran = subprocess.run(words, env={**os.environ, "PYTHONPATH": f"{TOP}/calls"}, stderr=subprocess.PIPE, text=True, timeout=60)
+        self.assertEqual((75, "x: yes, run as daemon, wrote more than 16 MiB"), (ran.returncode, ran.stderr.partition(": try")[0]))
 
 
 class Configured(Folder):

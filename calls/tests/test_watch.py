@@ -235,6 +235,18 @@ class Checked(Folder):
                 self.check._check_su(self.put("su", text))
             self.assertEqual([f"add the line '{line}' to {self.folder}/su"] * found, re.findall("add the line .* to [^,]*", "".join(self.said)))
 
+    def test_login_shells(self) -> None:
+        ours = self.put("lib/uuspool/uucico-login", "#!/bin/sh\n", 0o755)
+        os.symlink(f"{self.folder}/lib", f"{self.folder}/same")
+        for shell, begins in (
+            (ours, ""), (f"{self.folder}/same/uuspool/uucico-login", ""), ("/usr/sbin/uucico", "Who has the password of unc may give uucico options"),
+            ("/usr/share/doc/uuspool/uucico-login", "The login shell of unc, /usr/share/doc/uuspool/uucico-login, is not that of this version"),
+        ):  # fmt: skip
+            self.said.clear()
+            with mock.patch.object(check, "_shell_of", return_value=shell), mock.patch.object(self.check, "_sshd_says", return_value=[]):
+                self.check._check_login("unc")
+            self.assertEqual([(begins, f"usermod -s {ours} unc")] if begins else [], [(it[: len(begins)], it.rpartition(": ")[2]) for it in self.said])
+
     def test_clocks(self) -> None:
         for zone, machine, found in ("UTC0", "UTC0", 0), ("<site>-1:0", "CET-1CEST,M3.5.0,M10.5.0/3", 1), ("CET-1CEST,M3.5.0,M10.5.0/3", "CET-1CEST,M3.5.0,M10.5.0/3", 0):
             self.said.clear()

@@ -13,7 +13,8 @@ from .texts import typed
 
 _KEY = re.compile("[0-9a-fA-F]{64}")
 _UNSEALED = "unsealed"
-_MOST_OF_KEYS = 1 << 16  # bytes
+_KEYS = re.compile(rb"([0-9a-fA-F]{64}\n)+")
+_MOST_OF_KEYS = 65_001  # bytes, as the program has it: a thousand keys
 _PRIVATE = 0o077
 
 
@@ -99,8 +100,15 @@ class KeyFiles:
         if user_name(seen.st_uid) != self._owner or seen.st_mode & _PRIVATE:
             yield f"{path} has to be {self._owner}'s alone: {giving(self.path(neighbour), self._owner) if self._is_named_by_root else self._removal}"
             return
-        if not self.keys(neighbour) and not self.is_unsealed(neighbour):
+        if self.is_unsealed(neighbour):
+            return
+        if not self.keys(neighbour):
             yield f"{path} has no key of 64 hex digits: uuspool-setup {neighbour} seal adds one."
+        elif not _KEYS.fullmatch(self._read(neighbour) or b""):
+            yield (
+                f"{path} has a line that is no key, or more than a thousand, so no bundle goes to {neighbour} or comes from it: each line has to be 64 "
+                "hex digits and a line feed."
+            )
 
 
 def giving(path: str, owner: str) -> str:
