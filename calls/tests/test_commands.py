@@ -505,6 +505,12 @@ class Small(Folder):
             os.chmod(f"{self.folder}/public/{name}", mode)
         looks._check_neighbours_folders(f"{self.folder}/public")
         self.assertEqual(["phs", "unc"], sorted(os.path.basename(line.partition(",")[0]) for line in session.printed))
+        session.printed.clear()
+        self.put("public/duke/a/x")
+        self.put("public/eve/x")
+        self.put("etc/public", "eve /elsewhere\n")
+        looks._check_neighbours_folders(f"{self.folder}/public")
+        self.assertEqual(["duke"], [os.path.basename(line.partition(",")[0]) for line in session.printed if "has files that it did not bring" in line])
 
     def test_who_is_called_by_taylor(self) -> None:
         looks = check.Check(Quiet(self.folder))
