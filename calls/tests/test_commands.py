@@ -201,6 +201,19 @@ class Carriers(Folder):
                     self.assertEqual(before, files.read_bytes(keys))
                     undo()
 
+    def test_a_second_site_gets_no_folder_of_keys_of_the_first(self) -> None:
+        self.put_program()
+        self.session.program = f"{self.folder}/bin/uuspool"
+        self.put("s/a b.db", "x")
+        self.put("bin/ssh-keygen", "#!/bin/sh\n", 0o755)
+        self.session.environment["PATH"] = f"{self.folder}/bin:{os.environ['PATH']}"
+        its = setup.Setup(self.session, "duke")
+        its._make_key()
+        self.give(f"{self.folder}/etc/keys")
+        with self.assertRaisesRegex(Failure, f"^{self.folder}/etc/keys belongs to {pwd.getpwuid(1).pw_name}, perhaps for another site: let UUSPOOL_ETC name "):
+            its._make_key()
+        self.assertEqual(1, os.stat(f"{self.folder}/etc/keys").st_uid)
+
     def test_no_key_of_a_second_site_lets_its_neighbour_into_the_first(self) -> None:
         if os.geteuid():
             self.skipTest("only root adds a key")
@@ -515,6 +528,12 @@ class Small(Folder):
             os.chmod(f"{self.folder}/public/{name}", mode)
         looks._check_neighbours_folders(f"{self.folder}/public")
         self.assertEqual(["phs", "unc"], sorted(os.path.basename(line.partition(",")[0]) for line in session.printed))
+        session.printed.clear()
+        self.put("public/duke/a/x")
+        self.put("public/eve/x")
+        self.put("etc/public", "eve /elsewhere\n")
+        looks._check_neighbours_folders(f"{self.folder}/public")
+        self.assertEqual(["duke"], [os.path.basename(line.partition(",")[0]) for line in session.printed if "has files that it did not bring" in line])
 
     def test_who_is_called_by_taylor(self) -> None:
         looks = check.Check(Quiet(self.folder))

@@ -349,6 +349,7 @@ class Refused(Arrivals):
         return [it for it in self.spool.asked if it[0] == "mail"]
 
     def test_one_letter_though_pieces_come_later(self) -> None:
+        self.put("public/a/.uuspool")
         self.put("public/a/in/x/y")
         for at in 0, 1000, 2000:
             self.assertEqual(0, self.give(at))
@@ -462,6 +463,7 @@ class Refused(Arrivals):
         self.assertEqual(([], []), ([it for it in os.listdir(f"{self.folder}/pieces/a") if not it.endswith(".lock")], os.listdir(f"{self.folder}/refused")))
 
     def test_the_newest_file_is_kept_however_large(self) -> None:
+        self.put("public/a/.uuspool")
         self.put("public/a/in/x/y")
         for at in 0, 1000, 2000:
             self.give(at)

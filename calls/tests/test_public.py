@@ -56,6 +56,21 @@ class Public(Folder):
         with self.assertRaisesRegex(Delay, "~/z cannot be written"), memory_file(b"z") as content:
             its.put("~/z", content)
 
+    def test_what_came_to_the_folder_before_there_was_such_a_neighbour(self) -> None:
+        """It would look as if the neighbour had brought it."""
+        for path in "~/duke/a/x", "~/unc/x":
+            self.put_file(path)
+        os.remove(f"{self.folder}/public/unc/x")  # (as what removes old files leaves folders)
+        for name in "duke", "unc", "phs":
+            its = public.Public(f"{self.folder}/public", "mysite", name)
+            self.assertEqual(name == "duke", public.has_files_of_others(f"{self.folder}/public/{name}"))
+            with memory_file(b"y") as content:
+                if name == "duke":
+                    with self.assertRaisesRegex(Delay, "public/duke, to which files of duke come, has files that it did not bring"):
+                        its.put("~/y", content)
+                    os.rename(f"{self.folder}/public/duke/a/x", f"{self.folder}/public/x")
+                self.assertEqual(["~/y", "~/z"], [its.put(it, content) for it in ("~/y", "~/z")])
+
     def test_the_mark_stays_newer_than_what_came_while_the_clock_was_ahead(self) -> None:
         its, now = public.Public(f"{self.folder}/public", "mysite", "duke"), time.time()
         with memory_file(b"x") as content:
@@ -328,6 +343,7 @@ class Public(Folder):
             kept = [younger, ".news", *([f".new.{'0' * 16}"] if os.geteuid() == 0 else [])]
             self.assertEqual(sorted(kept), self.new_files())
         its = public.Public(f"{self.folder}/public", "mysite", "duke")
+        self.put("public/duke/.uuspool")
         for data in b"old", b"new":  # (also where files have no name at first, and replace another one)
             os.makedirs(f"{self.folder}/public/duke", exist_ok=True)
             os.utime(self.put("public/duke/.new.1"), (before, before))

@@ -317,6 +317,13 @@ class Pages(Folder):
         (name,) = re.findall(r"(?m)^    (\w+):\n      driver = pipe\n(?:      .*\n)*?      command = .*LOCAL_PART", page)
         self.assertRegex(page, f"(?m)^    {name}:\n      driver = accept\n(      .*\n)*      caseful_local_part\n")
 
+    def test_sendmail_runs_uux_alone_for_the_spools_user(self) -> None:
+        """Without the flag S a local user who sends mail runs it. Its mailers get 100 recipients if nothing says otherwise (r=)."""
+        with open(f"{TOP}/docs/mailers.md", encoding="utf-8") as file:
+            found = dict(re.findall(r"(?m)^    define\(`(\w+)', `(.*)'\)$", file.read()))
+        self.assertEqual({"UUCP_MAILER_PATH", "UUCP_MAILER_FLAGS", "UUCP_MAILER_ARGS", "UUCP_MAILER_MAX"}, {*found})
+        self.assertEqual(("S", "r=60"), (found["UUCP_MAILER_FLAGS"], found["UUCP_MAILER_ARGS"].partition("($u), ")[2]))
+
     def test_exim_keeps_mail_if_uux_cannot_begin(self) -> None:
         with open(f"{TOP}/docs/mailers.md", encoding="utf-8") as file:
             found = re.findall(r"(?m)^      command = /bin/sh -c '(.*)'.*\n(?:      .*\n)*?      temp_errors = (.*)$", file.read())

@@ -11,6 +11,7 @@ import itertools
 import os
 import stat
 from collections.abc import Callable, Iterator, Sequence
+from functools import partial
 
 from . import clock
 from .errors import Delay, Refusal
@@ -226,6 +227,8 @@ class Public:
             seen = os.fstat(place)
             if seen.st_uid not in (os.geteuid(), 0) or seen.st_mode & 0o022:
                 raise Delay(f"{path}, to which files of {self._neighbour} come, is another user's, or others may write it: remove it")
+            if _has_files_of_others(place):
+                raise Delay(f"{path}, to which files of {self._neighbour} come, has files that it did not bring: move them away")
             _mark(place)
             yield place
 
@@ -421,6 +424,20 @@ def _is_marked(folder: int, of_any_site: bool = False) -> bool:
     its, seen = look(MARK, folder, follows=False), os.fstat(folder)
     owners = (os.geteuid(), 0, *([seen.st_uid] if of_any_site else []))
     return its is not None and its.st_uid in owners and seen.st_uid in owners and not seen.st_mode & 0o022
+
+
+def _has_files_of_others(folder: int) -> bool:
+    """Whether the folder of a neighbour has files though it has no mark: they were sent there before the neighbour was a system, and would
+    look as if it had brought them. (Another delivery may mark it meanwhile.)"""
+    has_mark = partial(look, MARK, folder, follows=False)
+    return not has_mark() and any(names for _, _, names, _ in os.fwalk(".", dir_fd=folder)) and not has_mark()
+
+
+def has_files_of_others(path: str) -> bool:
+    """The same of a path, of which this user is the site's."""
+    with contextlib.suppress(OSError), opened(path, _OPEN_FOLDER) as folder:
+        return _has_files_of_others(folder)
+    return False
 
 
 def _is_neighbours(top: int, name: str) -> bool:

@@ -215,7 +215,10 @@ class Setup:
         return words
 
     def _give(self, path: str, owner: int, mode: int) -> None:
-        """Makes a folder the spool's user's alone."""
+        """Makes a folder the spool's user's alone, unless it is that of another site."""
+        if (its := os.stat(path).st_uid) not in (0, owner):
+            its_site = f"{path} belongs to {user_name(its)}, perhaps for another site"
+            raise Failure(LATER, f"{its_site}: let UUSPOOL_ETC name a folder of its own for this one, or give that one to {self._owner} by hand")
         try:
             os.chown(path, owner, -1)
             os.chmod(path, mode)
