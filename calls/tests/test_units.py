@@ -313,23 +313,6 @@ class Pages(Folder):
                 ran = subprocess.run(["sh", "-c", script, "duke", "joe"], stderr=subprocess.DEVNULL, check=False)
                 self.assertEqual(is_kept, str(ran.returncode) in kept.split(":"), (text, mode, ran.returncode))
 
-    def test_the_jobs_that_are_gone_after_a_copy_are_numbers(self) -> None:
-        """The spool's user writes the log, and no word of it is an option of root's."""
-        with open(f"{TOP}/docs/backup.md", encoding="utf-8") as file:
-            lines = re.findall(r"(?m)^    mysite# (gone=.*|.*\$gone.*)$", file.read())
-        copy, script = "/var/backups/uuspool/mysite.20261128T154726Z", "\n".join(lines).replace("/usr/local/lib/uuspool/as-owner uucp ", "")
-        self.assertEqual((2, True), (len(lines), copy in script))
-        self.put("copy/spool/copied", "0a 1 2\n")
-        self.put("folder/secret", "root's\n")
-        self.put("bin/uuspool-log", f"#!/bin/sh\ncat {self.folder}/log\n", 0o755)
-        self.put("bin/uuspool", f'#!/bin/sh\ncase $1 in list) seq -f "%.0f duke ann N" 6 9 ;; *) echo "$3" >>{self.folder}/killed ;; esac\n', 0o755)
-        for numbers, wanted in (["-rvf/dev/null"], []), (["8", "-rvf/dev/null", "-", "6"], ["6", "8"]):
-            head = "2026-11-28 12:00:00 - uucp - copied 0a v /copies/a\n"
-            self.put("log", head + "".join(f"2026-11-28 12:00:01 duke ann {number} done kill {number}\n" for number in numbers))
-            self.put("killed")
-            subprocess.run(["sh", "-c", script.replace(copy, f"{self.folder}/copy")], cwd=f"{self.folder}/folder", env={"PATH": f"{self.folder}/bin:/usr/bin:/bin"}, check=False)
-            self.assertEqual(wanted, self.bytes_of("killed").decode().split())
-
     def test_the_table_for_postfix_stays_if_nobody_knows_the_routes(self) -> None:
         with open(f"{TOP}/docs/mailers.md", encoding="utf-8") as file:
             line = re.findall(r"(?ms)^    own=.*?/etc/postfix/paths$", file.read())[0].replace("/etc/postfix/", "")
