@@ -33,7 +33,7 @@ _uuspool_call() {
     uuspool-setup:2:*) words='ssh folder command uucico taylor key seal' ;;
     uuspool-hold:2:*) words='off' ;;
     uuspool-setup:*:folder | uuspool-backup:* | uuspool-restore:*) _uuspool_paths -d "$word" ;;
-    uuspool-setup:*:command | uuspool-sys:* | uuspool-check:*:--metrics) _uuspool_paths -f "$word" ;;
+    uuspool-setup:*:command | uuspool-sys:* | uuspool-postfix:* | uuspool-check:*:--metrics) _uuspool_paths -f "$word" ;;
     # The neighbours that there is a way to call.
     uuspool-call:* | uuspool-move:* | uuspool-hold:1:* | uuspool-setup:1:* | uuspool-answer:* | *log:*:-s | uuspool-check:*:-s)
         mapfile -t -O ${#COMPREPLY[@]} COMPREPLY < <(cd -- "$entries" 2>/dev/null && compgen -f -- "$word")
@@ -43,4 +43,5 @@ _uuspool_call() {
 }
 
 complete -F _uuspool_call uuspool-call uuspool-night uuspool-answer uuspool-hold uuspool-deliver \
-    uuspool-refuse uuspool-expire uuspool-move uuspool-setup uuspool-check uuspool-sys uuspool-backup uuspool-restore uuspool-log uulog
+    uuspool-refuse uuspool-expire uuspool-move uuspool-setup uuspool-check uuspool-sys uuspool-postfix uuspool-backup uuspool-restore \
+    uuspool-log uulog

@@ -7,7 +7,7 @@ function __uuspool_neighbours
     command ls -- $entries/calls 2>/dev/null
 end
 
-for name in call night answer hold deliver refuse expire move setup check sys backup restore log
+for name in call night answer hold deliver refuse expire move setup check sys postfix backup restore log
     complete -c uuspool-$name -f
 end
 complete -c uulog -f
@@ -25,6 +25,7 @@ complete -c uuspool-expire -s w -x -d 'Warns after so many days'
 complete -c uuspool-move -s k -d 'Keeps the addresses of mail'
 complete -c uuspool-sys -s n -F -d 'Shows what would change'
 complete -c uuspool-sys -F
+complete -c uuspool-postfix -F
 complete -c uuspool-hold -a off
 complete -c uuspool-backup -s k -x -d 'How many copies stay'
 complete -c uuspool-backup -a '(__fish_complete_directories)'
