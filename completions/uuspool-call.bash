@@ -15,6 +15,7 @@ _uuspool_call() {
     uuspool-night) options='-w -p' ;;
     uuspool-expire) options='-w' ;;
     uuspool-move) options='-k' ;;
+    uuspool-refuse) options='-q' ;;
     uuspool-sys) options='-n' ;;
     uuspool-setup) options='--from-taylor -k -j --no-call' ;;
     uuspool-backup) options='-k' ;;

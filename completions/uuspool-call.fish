@@ -22,6 +22,7 @@ complete -c uuspool-call -l dry-run -d 'Says what would go, and how long it take
 complete -c uuspool-night -s w -d 'Goes on, with a round each minute'
 complete -c uuspool-night -s p -x -d 'Polls who was not called for so many minutes'
 complete -c uuspool-expire -s w -x -d 'Warns after so many days'
+complete -c uuspool-refuse -s q -x -d 'Queues again what is kept of a refused job'
 complete -c uuspool-move -s k -d 'Keeps the addresses of mail'
 complete -c uuspool-sys -s n -F -d 'Shows what would change'
 complete -c uuspool-sys -F
