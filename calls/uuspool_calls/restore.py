@@ -414,7 +414,8 @@ class Restoration:
 
     def _exchange(self, made: Target) -> str:
         """Where what was there is then."""
-        return (not self._place.is_within and self._exchange_folders(made)) or self._exchange_names()
+        path = "" if self._place.is_within else self._exchange_folders(made)
+        return path or self._exchange_names()
 
     def _exchange_folders(self, made: Target) -> str:
         """Where the folder that was there is then, or nothing if the file system can't do this. These files stay the same. So a line that
