@@ -15,8 +15,9 @@ _uuspool_call() {
     uuspool-night) options='-w -p' ;;
     uuspool-expire) options='-w' ;;
     uuspool-move) options='-k' ;;
+    uuspool-refuse) options='-q' ;;
     uuspool-sys) options='-n' ;;
-    uuspool-setup) options='--from-taylor -k --no-call' ;;
+    uuspool-setup) options='--from-taylor -k -j --no-call' ;;
     uuspool-backup) options='-k' ;;
     uuspool-restore) options='-n' ;;
     uuspool-check) options='--metrics --monitor -s -w -c -W -C -r -m' ;;
@@ -29,11 +30,11 @@ _uuspool_call() {
     *) mapfile -t COMPREPLY < <(compgen -W "$options" -- "$word") ;;
     esac
     case $command:$COMP_CWORD:$before in
-    uuspool-setup:2:--from-taylor) words='-k uucico taylor' ;;
+    uuspool-setup:2:--from-taylor) words='-k -j uucico taylor' ;;
     uuspool-setup:2:*) words='ssh folder command uucico taylor key seal' ;;
     uuspool-hold:2:*) words='off' ;;
     uuspool-setup:*:folder | uuspool-backup:* | uuspool-restore:*) _uuspool_paths -d "$word" ;;
-    uuspool-setup:*:command | uuspool-sys:* | uuspool-check:*:--metrics) _uuspool_paths -f "$word" ;;
+    uuspool-setup:*:command | uuspool-sys:* | uuspool-postfix:* | uuspool-check:*:--metrics) _uuspool_paths -f "$word" ;;
     # The neighbours that there is a way to call.
     uuspool-call:* | uuspool-move:* | uuspool-hold:1:* | uuspool-setup:1:* | uuspool-answer:* | *log:*:-s | uuspool-check:*:-s)
         mapfile -t -O ${#COMPREPLY[@]} COMPREPLY < <(cd -- "$entries" 2>/dev/null && compgen -f -- "$word")
@@ -43,4 +44,5 @@ _uuspool_call() {
 }
 
 complete -F _uuspool_call uuspool-call uuspool-night uuspool-answer uuspool-hold uuspool-deliver \
-    uuspool-refuse uuspool-expire uuspool-move uuspool-setup uuspool-check uuspool-sys uuspool-backup uuspool-restore uuspool-log uulog
+    uuspool-refuse uuspool-expire uuspool-move uuspool-setup uuspool-check uuspool-sys uuspool-postfix uuspool-backup uuspool-restore \
+    uuspool-log uulog

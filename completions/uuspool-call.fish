@@ -7,7 +7,7 @@ function __uuspool_neighbours
     command ls -- $entries/calls 2>/dev/null
 end
 
-for name in call night answer hold deliver refuse expire move setup check sys backup restore log
+for name in call night answer hold deliver refuse expire move setup check sys postfix backup restore log
     complete -c uuspool-$name -f
 end
 complete -c uulog -f
@@ -22,9 +22,11 @@ complete -c uuspool-call -l dry-run -d 'Says what would go, and how long it take
 complete -c uuspool-night -s w -d 'Goes on, with a round each minute'
 complete -c uuspool-night -s p -x -d 'Polls who was not called for so many minutes'
 complete -c uuspool-expire -s w -x -d 'Warns after so many days'
+complete -c uuspool-refuse -s q -x -d 'Queues again what is kept of a refused job'
 complete -c uuspool-move -s k -d 'Keeps the addresses of mail'
 complete -c uuspool-sys -s n -F -d 'Shows what would change'
 complete -c uuspool-sys -F
+complete -c uuspool-postfix -F
 complete -c uuspool-hold -a off
 complete -c uuspool-backup -s k -x -d 'How many copies stay'
 complete -c uuspool-backup -a '(__fish_complete_directories)'
@@ -43,6 +45,7 @@ complete -c uuspool-check -n $monitor -s m -x -d 'Warns if fewer megabytes are f
 complete -c uuspool-setup -F -a 'ssh folder command uucico taylor key seal'
 complete -c uuspool-setup -l from-taylor -d 'Takes over the neighbours of Taylor UUCP'
 complete -c uuspool-setup -s k -d 'Leaves what is there, and adds the rest'
+complete -c uuspool-setup -s j -d 'Queues here what waits in its spool'
 complete -c uuspool-setup -l no-call -d 'Leaves calls to Taylor UUCP'
 
 for name in uuspool-log uulog

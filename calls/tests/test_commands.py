@@ -49,6 +49,15 @@ class Words(Folder):
         setup._expect_key(["sk-ssh-ed25519@openssh.com", "AAAA"])
         self.expect_usage(setup._expect_key, [], ["ssh-ed25519"], ["ssh-ed25519", 'AAAA" x'], ["rsa", "AAAA"], ["ssh-x y", "A"], ["ssh-x", "A\n"])
 
+    def test_a_key_of_standard_input_is_one_line(self) -> None:
+        """A neighbour wrote it, so root's shell doesn't read it."""
+        for text, words in (b"ssh-ed25519 AAAA duke\n", ["ssh-ed25519", "AAAA", "duke"]), (b"ssh-ed25519 $(id)", ["ssh-ed25519", "$(id)"]), (b"", []), (b"a b\nc d\n", []), (b"\xff", ["\ufffd"]):
+            session = Quiet(self.folder)
+            with files.memory_file(text) as handle, mock.patch.object(session.processes, "read_input", side_effect=lambda stream, *words: os.read(handle, 99)):
+                self.assertEqual(words, setup._key_in(session), text)
+        with mock.patch.object(setup, "_key_in", return_value=["x"]), self.assertRaisesRegex(Failure, "a public key begins with its kind"):
+            setup.run(Quiet(self.folder), ["duke", "key", "-"])
+
     def test_numbers_of_the_environment(self) -> None:
         self.assertEqual([3600, 20], [Quiet(self.folder, **it).call_limit for it in ({}, {"UUSPOOL_CALL_LIMIT": "20"})])
         with self.assertRaisesRegex(Failure, "UUSPOOL_AT_ONCE is 1m, and has to be a number"):

@@ -13,7 +13,7 @@ from uuspool_calls.exchange import finish_begun
 from uuspool_calls.jobs import Job, Parcel
 from uuspool_calls.pieces import Piece
 
-from .standins import Folder, StandIn, parcel, site
+from .standins import Folder, Quiet, StandIn, parcel, site
 
 _HISTORIES = int(os.environ.get("HISTORIES", "400"))
 _STEPS = 12
@@ -214,3 +214,46 @@ class Histories(Folder):
         for seed in range(_HISTORIES):
             self.setUp()
             self.play(seed)
+
+
+class QueuedAgain(Folder):
+    def setUp(self) -> None:
+        super().setUp()
+        self.session = Quiet(self.folder)
+        self.asked = mock.Mock(return_value=b"job 9\n")
+        spool = StandIn()
+        spool.ask_once = self.asked  # type: ignore[attr-defined]
+        self.enterContext(mock.patch.object(refuse, "enter", return_value=site(self.folder, spool)))
+
+    def queue(self, *words: str) -> int:
+        return refuse.run(self.session, ["-q", *words])
+
+    def test_a_job_that_was_refused(self) -> None:
+        """Its words are a stranger's, and are given as they are."""
+        words = "nothing", "$(id)", "*", ";id", "--", "-x", "--as=root"
+        self.put("refused/7.2", f"why $(id)\n7 mysite unc!joe C 2026-11-28 10:00:00 6 exec {' '.join(words)}\nby\tes\n")
+        self.assertEqual((0, ["job 9"]), (self.queue("7.2", "duke"), self.session.printed))
+        self.asked.assert_called_once_with("--as=unc!joe", "exec", "-gC", "--", "duke", *words, given=b"by\tes\n")
+        self.assertTrue(os.path.exists(f"{self.folder}/refused/7.2"))
+        self.asked.side_effect = SpoolError(1, "refused NoSystem")
+        with self.assertRaisesRegex(Failure, r"/refused/7\.2 can't be queued for duke: refused NoSystem$"):
+            self.queue("7.2", "duke")
+
+    def test_what_is_no_such_job(self) -> None:
+        job = "7 mysite ann N 2026-11-28 10:00:00 1 {} rmail joe\nx"
+        os.makedirs(f"{self.folder}/refused/8.file")
+        os.symlink(self.put("roots", f"why\n{job.format('exec')}"), f"{self.folder}/refused/link")
+        os.mkfifo(f"{self.folder}/refused/pipe")
+        for name, text in ("kill", job.format("kill")), ("short", job.format("exec")[:-1]), ("none", ""), ("few", "7 mysite"), ("7.waiting.untold", job.format("exec")):
+            self.put(f"refused/{name}", f"why\n{text}")
+        for name, status in ("kill", 75), ("short", 75), ("none", 75), ("few", 75), ("7.waiting.untold", 75), ("9", 1), ("../roots", 64), (".seen", 64), ("-q", 64):
+            with self.assertRaises(Failure) as raised:
+                self.queue(name, "duke")
+            self.assertEqual(status, raised.exception.status, name)
+        for name in "8.file", "link", "pipe":
+            with self.assertRaises(OSError):
+                self.queue(name, "duke")
+        for words in ["7"], ["7", "-x"], ["7", "duke", "unc"], []:
+            with self.assertRaisesRegex(Failure, "usage: |wants a value"):
+                self.queue(*words)
+        self.asked.assert_not_called()

@@ -3,10 +3,12 @@ import collections
 import contextlib
 import fcntl
 import gzip
+import itertools
 import json
 import os
 import pwd
 import random
+import shutil
 import stat
 import subprocess
 from collections.abc import Iterable
@@ -707,12 +709,6 @@ class Places(Folder):
             raise KeyError
         self.assertEqual((["after", "site"], b"before"), (sorted(os.listdir(self.folder)), self.bytes_of("site/spool.db")))
 
-    def test_a_file_system_that_cannot_exchange(self) -> None:
-        with mock.patch.object(kernel, "exchange", side_effect=OSError(22, "Invalid argument")), self.assertRaisesRegex(Failure, "no other folder can take the place of .*: put the copy back by hand"):
-            with place.Place(self.path, "", "spool.db") as its:
-                self.exchange(its)
-        self.assertEqual((["after", "site"], b"before"), (sorted(os.listdir(self.folder)), self.bytes_of("site/spool.db")))
-
     def test_what_a_killed_run_left_is_removed_unless_it_goes_on(self) -> None:
         self.put("site.restoring/spool/spool.db", "x")
         with place.Place(self.path, "", "spool.db") as its:
@@ -756,18 +752,19 @@ class Places(Folder):
                 its.expect_nobody()
                 other.kill()
 
-    def test_a_parent_that_others_write(self) -> None:
+    def test_when_no_folder_takes_its_place(self) -> None:
+        def is_within() -> bool:
+            with place.Place(self.path, "", "spool.db") as its:
+                return its.is_within
+
+        self.assertFalse(is_within())
+        with mock.patch.object(place, "_mount_of", side_effect=[b"1", b"2"]):
+            self.assertTrue(is_within())
         os.chmod(self.folder, 0o777)
-        with self.assertRaisesRegex(Failure, "others may write"):
-            place.Place(self.path, "", "spool.db")
+        self.assertTrue(is_within())
         os.chmod(self.folder, 0o755)
         self.give(self.folder)
-        with self.assertRaisesRegex(Failure, "belongs to another user"):
-            place.Place(self.path, "", "spool.db")
-
-    def test_a_mount_point(self) -> None:
-        with mock.patch.object(place, "_mount_of", side_effect=[b"1", b"2"]), self.assertRaisesRegex(Failure, "is a mount point, so that no other folder takes its place: put the copy back by hand"):
-            place.Place(self.path, "", "spool.db")
+        self.assertTrue(is_within())
 
     def test_a_link_in_the_place_of_the_spool(self) -> None:
         """The spool's user has put it there: nothing but its name changes."""
@@ -798,6 +795,137 @@ class Places(Folder):
                     before = restoration._exchange(made)
                 why = f"the copy is put back, but a step behind that failed in {before}, where the spool that was there is (No space left on device): run this again"
                 self.assertEqual(([why], b"after"), (restoration.faults, self.bytes_of("site/spool.db")))
+
+
+class Names(Folder):
+    """A folder in which what is made takes the place name by name."""
+
+    def setUp(self) -> None:
+        super().setUp()
+        self.path = f"{self.folder}/site"
+        for name in "spool.db", "spool.db-wal", "spool.db-word", "spool.db-journal", "calls/duke", "refused/3", "spool.db-lock", "uuspool.toml", "notes/x":
+            self.put(f"site/{name}", "before")
+        os.symlink("/log", f"{self.path}/log")
+        for name in "spool.db", "spool.db-wal", "spool.db-word", "restored", "calls/duke", "refused/3", "refused/4":
+            self.put(f"after/{name}", "after")
+
+    def entered(self, is_within: bool, owner: str = "") -> place.Place:
+        """A mount point, or a folder on a file system that can't exchange folders."""
+        with mock.patch.object(place, "_mount_of", side_effect=[b"1", b"2"] if is_within else [b"1"] * 2):
+            return place.Place(self.path, owner, "spool.db")
+
+    def put_back(self, its: place.Place) -> str:
+        made = its.begin().folder(place.INNER, its.seen)
+        with restore.Copier() as copier:
+            copier.take(f"{self.folder}/after", made)
+            copier.finish()
+        made.like = its.seen
+        made.sync()
+        restoration = restore.Restoration(Quiet(self.folder), mock.Mock(), "", its, mock.Mock())
+        restoration._source.name = "spool.db"
+        with mock.patch.object(kernel, "exchange", side_effect=OSError(22, "Invalid argument")):
+            return restoration._exchange(made)
+
+    def killed(self, is_within: bool, function: str, step: int) -> bool:
+        """Whether a process that is killed before such a step of it ended so."""
+        if not (process := os.fork()):
+            do = getattr(os, function)
+
+            def step_or_end(*words: object, **named: object) -> object:
+                nonlocal step
+                step -= 1
+                return do(*words, **named) if step else os._exit(9)
+
+            with mock.patch.object(os, function, step_or_end), self.entered(is_within) as its:
+                self.put_back(its)
+            os._exit(0)
+        return os.waitstatus_to_exitcode(os.waitpid(process, 0)[1]) == 9
+
+    def all(self, folder: str) -> dict[str, bytes]:
+        """The files below a folder, but those of a folder that was there before."""
+        paths = [f"{top}/{name}" for top, _, names in os.walk(folder) for name in names if ".before." not in top and ".restoring" not in top]
+        return {os.path.relpath(it, folder): b"link" if os.path.islink(it) else self.bytes_of(os.path.relpath(it, self.folder)) for it in paths}
+
+    def expect_after(self, is_within: bool, old: str) -> None:
+        after = {name: b"after" for name in self.all(f"{self.folder}/after")}
+        stays = {"log": b"link", **dict.fromkeys(("spool.db-lock", "uuspool.toml", "notes/x"), b"before")}
+        self.assertEqual({**after, **stays}, self.all(self.path))
+        self.assertEqual({1}, {os.stat(f"{self.path}/{it}").st_nlink for it in ("spool.db-lock", "uuspool.toml")})
+        self.assertEqual(0o700, stat.S_IMODE(os.stat(os.path.dirname(old)).st_mode))
+        self.assertRegex(old, r"/site/site\.before\.[0-9TZ]+/old$" if is_within else r"/[^/]*/site\.before\.[0-9TZ]+/old$")
+        there = [it for it in os.listdir(old) if not it.startswith(".")]
+        self.assertEqual(["calls", "refused", "spool.db", "spool.db-journal", "spool.db-wal", "spool.db-word"], sorted(there))
+        self.assertEqual(b"before", self.bytes_of(os.path.relpath(f"{old}/spool.db", self.folder)))
+
+    def test_what_is_there_is_exchanged(self) -> None:
+        for is_within in True, False:
+            with self.subTest(is_within), self.entered(is_within) as its:
+                self.expect_after(is_within, self.put_back(its))
+            shutil.rmtree(self.folder)
+            self.setUp()
+
+    def test_wherever_it_is_killed(self) -> None:
+        """The site has the old spool, the new one, or none, until the next run finishes what it began. Nothing beside it is lost."""
+        for is_within, function in itertools.product((True, False), ("rename", "mkdir")):
+            found, step = set(), 0
+            while self.killed(is_within, function, step := step + 1):
+                spool = self.bytes_of("site/spool.db") if os.path.exists(f"{self.path}/spool.db") else b""
+                found.add(spool)
+                with self.subTest((is_within, function, step)), self.entered(is_within) as its:
+                    if not spool:
+                        self.put("site/calls/phs", "a call that failed meanwhile")
+                    its.begin()
+                    expected = {"before": b"before"}.get(spool.decode(), b"after")
+                    self.assertEqual([expected] * 3, [self.bytes_of(f"site/{it}") for it in ("spool.db", "calls/duke", "refused/3")])
+                    self.assertEqual(expected == b"after", os.path.exists(f"{self.path}/restored"))
+                shutil.rmtree(self.folder)
+                self.setUp()
+            self.assertTrue(function != "rename" or found == {b"before", b"", b"after"}, found)
+
+    def test_a_step_that_fails_is_undone(self) -> None:
+        before = self.all(self.path)
+        for is_within in True, False:
+            for step in range(1, 100):
+                left, do, full = step, os.rename, OSError(28, "No space left on device")
+
+                def rename(*words: object, **named: object) -> None:
+                    nonlocal left
+                    left -= 1
+                    if not left:
+                        raise full
+                    do(*words, **named)  # type: ignore[arg-type]
+
+                with self.subTest((is_within, step)), self.entered(is_within) as its, mock.patch.object(os, "rename", rename):
+                    try:
+                        self.put_back(its)
+                        break
+                    except OSError:
+                        pass
+                self.assertEqual(before, self.all(self.path))
+            self.assertGreater(step, 10)
+            shutil.rmtree(self.folder)
+            self.setUp()
+
+    def test_what_root_does_there_it_does_as_the_spool_s_user(self) -> None:
+        """A folder of root's, which this user may rename, isn't removed in the place of what a killed run left."""
+        os.remove(f"{self.path}/log")
+        for top, _, names in os.walk(self.path):
+            for path in top, *(f"{top}/{it}" for it in names):
+                self.give(path)
+        with self.entered(True, "daemon") as its, mock.patch.object(files, "sync"):
+            old = self.put_back(its)
+            paths = [os.path.join(top, it) for top, folders, names in os.walk(self.path) for it in folders + names]
+            self.assertEqual({1}, {os.lstat(it).st_uid for it in paths})
+            self.assertEqual(b"before", self.bytes_of(os.path.relpath(f"{old}/spool.db", self.folder)))
+        os.mkdir(f"{self.path}/site.restoring", 0o700)
+        self.put("site/site.restoring/kept", "root's")
+        with self.entered(True, "daemon") as its, self.assertRaises(PermissionError):
+            its.begin()
+        self.assertEqual(b"root's", self.bytes_of("site/site.restoring/kept"))
+        os.chmod(f"{self.path}/site.restoring", 0o755)
+        with self.entered(True, "daemon") as its, self.assertRaises(OSError):
+            its.begin()
+        self.assertEqual(b"root's", self.bytes_of("site/site.restoring/kept"))
 
 
 class Sources(Folder):

@@ -293,23 +293,6 @@ class Completions(Folder):
 class Pages(Folder):
     """Lines of the pages that root types."""
 
-    def test_the_table_for_postfix_has_other_hosts_alone(self) -> None:
-        with open(f"{TOP}/docs/mailers.md", encoding="utf-8") as file:
-            line = re.findall(r"(?ms)^    own=.*?/etc/postfix/paths$", file.read())[0]
-        hosts = "duke", "phs", "Mysite", "LocalHost", "MAIL", "other", "gw.example", "GW.named", "[^ ]*", ".*", "a|b", "a/b", "a b", "a_b", "unc"
-        self.put("routes", "".join(f"{host}\tduke!%s\n" for host in hosts) + "c\tduke!a${1}!%s\nd\tduke\ne\tduke!unc!E!%s\n"
-            + "SYS\tsys!SYS!%s\nSys\tother!Sys!%s\nsys\tsys!%s\nsYs\tduke!sYs!%s\nTwo\tduke!Two!%s\ntwo\tduke!unc!two!%s\n")  # fmt: skip
-        self.put("map-domains", "gw.Named\n")
-        self.put("mailname", "Mail\n")
-        for name, said in ("hostname", "mysite"), ("postconf", "$myhostname, other,hash:/etc/x, localhost"):
-            self.put(f"bin/{name}", f"#!/bin/sh\necho '{said}'\n", 0o755)
-        for path, ours in ("/usr/local/lib/uuspool/as-owner -m 10000000 uucp uuspool routes >/etc/postfix/routes", "true"), ("/etc/postfix/", ""), ("/etc/mailname", "mailname"):
-            self.assertIn(path, line)
-            line = line.replace(path, ours)
-        subprocess.run(["sh", "-c", line], cwd=self.folder, env={"PATH": f"{self.folder}/bin:/usr/bin:/bin"}, check=True)
-        made = [(host, "${1}@duke") for host in ("duke", "phs", "gw\\.named", "a_b", "unc")] + [("e", "unc!E!${1}@duke"), ("sys", "${1}@sys"), ("two", "Two!${1}@duke")]
-        self.assertEqual(sorted(f"/^(.*)@{host}$/\t{path}" for host, path in made), sorted(self.bytes_of("paths").decode().splitlines()))
-
     def test_mailers_keep_capitals(self) -> None:
         with open(f"{TOP}/docs/mailers.md", encoding="utf-8") as file:
             page = file.read()
@@ -338,34 +321,6 @@ class Pages(Folder):
                     self.put("uux", f"#!/bin/sh\n{text}\n", mode)
                 ran = subprocess.run(["sh", "-c", script, "duke", "joe"], stderr=subprocess.DEVNULL, check=False)
                 self.assertEqual(is_kept, str(ran.returncode) in kept.split(":"), (text, mode, ran.returncode))
-
-    def test_the_jobs_that_are_gone_after_a_copy_are_numbers(self) -> None:
-        """The spool's user writes the log, and no word of it is an option of root's."""
-        with open(f"{TOP}/docs/backup.md", encoding="utf-8") as file:
-            lines = re.findall(r"(?m)^    mysite# (gone=.*|.*\$gone.*)$", file.read())
-        copy, script = "/var/backups/uuspool/mysite.20261128T154726Z", "\n".join(lines).replace("/usr/local/lib/uuspool/as-owner uucp ", "")
-        self.assertEqual((2, True), (len(lines), copy in script))
-        self.put("copy/spool/copied", "0a 1 2\n")
-        self.put("folder/secret", "root's\n")
-        self.put("bin/uuspool-log", f"#!/bin/sh\ncat {self.folder}/log\n", 0o755)
-        self.put("bin/uuspool", f'#!/bin/sh\ncase $1 in list) seq -f "%.0f duke ann N" 6 9 ;; *) echo "$3" >>{self.folder}/killed ;; esac\n', 0o755)
-        for numbers, wanted in (["-rvf/dev/null"], []), (["8", "-rvf/dev/null", "-", "6"], ["6", "8"]):
-            head = "2026-11-28 12:00:00 - uucp - copied 0a v /copies/a\n"
-            self.put("log", head + "".join(f"2026-11-28 12:00:01 duke ann {number} done kill {number}\n" for number in numbers))
-            self.put("killed")
-            subprocess.run(["sh", "-c", script.replace(copy, f"{self.folder}/copy")], cwd=f"{self.folder}/folder", env={"PATH": f"{self.folder}/bin:/usr/bin:/bin"}, check=False)
-            self.assertEqual(wanted, self.bytes_of("killed").decode().split())
-
-    def test_the_table_for_postfix_stays_if_nobody_knows_the_routes(self) -> None:
-        with open(f"{TOP}/docs/mailers.md", encoding="utf-8") as file:
-            line = re.findall(r"(?ms)^    own=.*?/etc/postfix/paths$", file.read())[0].replace("/etc/postfix/", "")
-        for name in "hostname", "postconf":
-            self.put(f"bin/{name}", "#!/bin/sh\n", 0o755)
-        for status, table in (141, "old\n"), (0, "/^(.*)@phs$/\t${1}@duke\n"):
-            self.put("paths", "old\n")
-            line = line.replace("/usr/local/lib/uuspool/as-owner", self.put("as-owner", f"#!/bin/sh\n[ $1 = -m ] || exit\nprintf 'phs\\tduke!%%s\\n'; exit {status}\n", 0o755))
-            subprocess.run(["sh", "-c", line], cwd=self.folder, env={"PATH": f"{self.folder}/bin:/usr/bin:/bin"}, stderr=subprocess.DEVNULL, check=False)
-            self.assertEqual(table, self.bytes_of("paths").decode())
 
     def test_the_script_that_answers_a_bundle_leaves_no_file(self) -> None:
         with open(f"{TOP}/docs/bundles.md", encoding="utf-8") as file:

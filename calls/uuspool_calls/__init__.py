@@ -11,7 +11,7 @@ From below, each importing only what stands before it (`calls/tests/test_layers.
     files kernel processes                  what is on the disk, and what runs
     session settings contacts forward journal jobs spool relay site
     figures monitor metrics turn copies leaving units  what operators watch, and how a site is copied
-    restored logged source place            how a copy is put back
+    restored logged source byname place     how a copy is put back
     bundle public commands ages pieces wholes records works newest  what neighbours send, and what is kept of it
     envelope                                what mail of a neighbour begins with
     letters refusals moves exchange         what becomes of jobs

@@ -25,18 +25,20 @@ class Shorter(OSError):
 
 class Target:
     """A new folder, which is filled. Each folder and file in it is written to the disk by `sync`, and then it becomes
-    like the one of which it is a copy."""
+    like the one of which it is a copy. If a user is given, root makes all of it as this user, in whose folder it is."""
 
-    def __init__(self, name: str, parent: int | None = None) -> None:
-        os.mkdir(name, 0o700, dir_fd=parent)
-        self.handle = os.open(name, _FOLDER, dir_fd=parent)
+    def __init__(self, name: str, parent: int | None = None, owner: str = "") -> None:
+        self.owner = owner
+        with acting_as(owner):
+            os.mkdir(name, 0o700, dir_fd=parent)
+            self.handle = os.open(name, _FOLDER, dir_fd=parent)
         self._parts: dict[str, Target] = {}
         self.like: os.stat_result | None = None
 
     def folder(self, name: str, like: os.stat_result | None = None) -> "Target":
         """A folder in it, which is new, unless this made it before."""
         if name not in self._parts:
-            self._parts[name] = Target(name, self.handle)
+            self._parts[name] = Target(name, self.handle, self.owner)
             self._parts[name].like = like
         return self._parts[name]
 
@@ -44,7 +46,7 @@ class Target:
         """A new file with the bytes, the mode and the time of an open one, and its owner if this is root. None is left
         if that one became shorter meanwhile."""
         seen = os.fstat(source)
-        with files.opened(name, _NEW, folder=self.handle) as handle:
+        with acting_as(self.owner), files.opened(name, _NEW, folder=self.handle) as handle:
             if not _copy(source, handle, seen.st_size):
                 os.remove(name, dir_fd=self.handle)
                 raise Shorter(name)
@@ -53,28 +55,37 @@ class Target:
 
     def put_text(self, name: str, text: str, like: os.stat_result) -> None:
         """A new file with a text, for its owner alone, who is that of another one, if this is root."""
-        with files.opened(name, _NEW, folder=self.handle) as handle:
+        with acting_as(self.owner), files.opened(name, _NEW, folder=self.handle) as handle:
             files.write_all(handle, text.encode())
             if os.geteuid() == 0:
                 os.fchown(handle, like.st_uid, like.st_gid)
+
+    def link(self, name: str, target: str, like: os.stat_result) -> None:
+        """A new link, whose owner is that of another one, if this is root."""
+        with acting_as(self.owner):
+            os.symlink(target, name, dir_fd=self.handle)
+            if os.geteuid() == 0:
+                os.chown(name, like.st_uid, like.st_gid, dir_fd=self.handle, follow_symlinks=False)
 
     def sync(self) -> None:
         """Writes everything to the disk."""
         for part in self._parts.values():
             part.sync()
-        for name in os.listdir(self.handle):
-            if stat.S_ISREG(os.stat(name, dir_fd=self.handle, follow_symlinks=False).st_mode):
-                with files.opened(name, os.O_RDONLY | os.O_NOFOLLOW | os.O_NONBLOCK, folder=self.handle) as handle:
-                    files.sync(handle)
-        if self.like:
-            _make_like(self.handle, self.like)
-        files.sync(self.handle)
+        with acting_as(self.owner):
+            for name in os.listdir(self.handle):
+                if stat.S_ISREG(os.stat(name, dir_fd=self.handle, follow_symlinks=False).st_mode):
+                    with files.opened(name, os.O_RDONLY | os.O_NOFOLLOW | os.O_NONBLOCK, folder=self.handle) as handle:
+                        files.sync(handle)
+            if self.like:
+                _make_like(self.handle, self.like)
+            files.sync(self.handle)
 
     def remove(self, name: str) -> None:
         """Removes a folder in it."""
         import shutil  # (takes long to load)
 
-        shutil.rmtree(name, ignore_errors=True, dir_fd=self.handle)
+        with acting_as(self.owner):
+            shutil.rmtree(name, ignore_errors=True, dir_fd=self.handle)
 
     def close(self) -> None:
         """Closes the folders."""
@@ -160,9 +171,7 @@ class Copier:
                 elif stat.S_ISDIR(seen.st_mode) and f"{path}/{name}" not in self._without:
                     self._enter(name, folder, f"{path}/{name}", target.folder(name, seen), wanted)
                 elif stat.S_ISLNK(seen.st_mode):
-                    os.symlink(os.readlink(name, dir_fd=folder), name, dir_fd=target.handle)
-                    if os.geteuid() == 0:
-                        os.chown(name, seen.st_uid, seen.st_gid, dir_fd=target.handle, follow_symlinks=False)
+                    target.link(name, os.readlink(name, dir_fd=folder), seen)
                 elif not stat.S_ISDIR(seen.st_mode) and (wanted is None or wanted(name)) and f"{path}/{name}" not in self._without:
                     self._open(name, folder, target, name, f"{path}/{name}")
 

@@ -2,7 +2,10 @@
 
 What is made for that is in `NAME.restoring` beside it. Before the step this folder becomes `NAME.before.MOMENT`, which only
 who runs the command can enter. After the step the folder that was the spool's is in it, so no line that began in that
-folder finds its spool there."""
+folder finds its spool there.
+
+If it is a mount point, or others may write the folder that it is in, no other one can take its place. Then `NAME.restoring` is in it, of the
+spool's user, and what is in both is exchanged name by name. So it is if the file system can't exchange folders."""
 import contextlib
 import errno
 import fcntl
@@ -12,51 +15,52 @@ import stat
 import time
 from collections.abc import Callable, Collection, Sequence
 
-from . import clock, files, kernel
+from . import byname, clock, files, kernel
 from .copies import Target
 from .errors import LATER, Failure
 from .session import acting_as
 
 INNER = "spool"  # the folder that is made, and after the step the one that was there
+OLD = "old"  # the folder of what was there, if that is exchanged name by name
 ASIDE = ".aside"  # ends the name of the spool in the folder that was there
 _FOLDER = os.O_RDONLY | os.O_DIRECTORY | os.O_NOFOLLOW | os.O_CLOEXEC
 _OTHERS_WRITE = 0o022
 _LOOKS, _PAUSE = 50, 0.1  # how often it is looked whether somebody works there, and the seconds between
 _NEVER = (errno.EBUSY, errno.EXDEV, errno.EINVAL, errno.ENOSYS, errno.EOPNOTSUPP)  # what rename says of a mount point, or if it can't
-BY_HAND = "put the copy back by hand, as backup.md says"
 
 
 class Place:
     """The folder of a spool, which belongs to this user, and the folder that it is in."""
 
     def __init__(self, folder: str, owner: str, spool: str) -> None:
-        self.path, self._owner, self._lock = os.path.realpath(folder), owner, f"{os.path.realpath(folder)}/{spool}-lock"
+        self.path, self._owner, self._spool = os.path.realpath(folder), owner, spool
+        self._lock = f"{self.path}/{spool}-lock"
         self.parent, self.name = os.path.split(self.path)
+        self._restoring = f"{self.name}.restoring"
         self._room: Target | None = None
         self._parent = os.open(self.parent, _FOLDER)
         try:
             self.handle = os.open(self.name, _FOLDER, dir_fd=self._parent)
-            self._expect_own_parent()
         except BaseException:
             os.close(self._parent)
             raise
         self.seen = os.fstat(self.handle)
+        self.is_within = not self._may_be_replaced()  # whether what is made is in it
+        self._base = self.handle if self.is_within else self._parent
+        self._base_owner = owner if self.is_within else ""  # who works there for root
 
-    def _expect_own_parent(self) -> None:
+    def _may_be_replaced(self) -> bool:
         seen, own = os.fstat(self._parent), os.geteuid()
-        if seen.st_uid not in (0, own) or seen.st_mode & _OTHERS_WRITE:
-            raise Failure(LATER, f"others may write {self.parent}, or it belongs to another user, so that nothing takes the place of {self.path}: {BY_HAND}")
-        if _mount_of(self.handle) != _mount_of(self._parent):
-            raise Failure(LATER, f"{self.path} is a mount point, so that no other folder takes its place: {BY_HAND}")
+        return seen.st_uid in (0, own) and not seen.st_mode & _OTHERS_WRITE and _mount_of(self.handle) == _mount_of(self._parent)
 
     def __enter__(self) -> "Place":
         return self
 
     def __exit__(self, *error: object) -> None:
         if self._room:
+            if self._lives_at(self._restoring) and not self._has_old(self._room.handle):
+                self._remove(self._restoring)
             self._room.close()
-            if self._lives_at(f"{self.name}.restoring"):
-                self._remove(f"{self.name}.restoring")
         os.close(self.handle)
         os.close(self._parent)
 
@@ -91,42 +95,94 @@ class Place:
     # ---- what takes the place
 
     def begin(self) -> Target:
-        """A new folder beside, for what is made. What a killed run left is removed."""
-        name = f"{self.name}.restoring"
-        if os.path.lexists(f"{self.parent}/{name}"):
-            with files.opened(name, _FOLDER, folder=self._parent) as handle:
-                _lock(handle, f"{self.parent}/{name}")
-                self._remove(name)
-        self._remove_second_names()
+        """A new folder for what is made. What a killed run left is ended."""
+        self._end_former()
         try:
-            self._room = Target(name, self._parent)
+            with acting_as(self._base_owner):
+                self._room = Target(self._restoring, self._base, self._base_owner)
         except PermissionError:
-            raise Failure(LATER, f"{self.parent} can't be written, so that nothing takes the place of {self.path}: let root run this") from None
-        _lock(self._room.handle, f"{self.parent}/{name}")
-        if os.geteuid() == 0:
+            raise Failure(LATER, f"{os.path.dirname(self.room)} can't be written, so that nothing takes the place of {self.path}: let root run this") from None
+        _lock(self._room.handle, self.room)
+        if os.geteuid() == 0 and not self.is_within:
             os.fchmod(self._room.handle, 0o711)  # (The owner of the spool works in it.)
         return self._room
+
+    def _end_former(self) -> None:
+        """Removes what a killed run made, or finishes what it began, if there is no spool because of that."""
+        if files.look(self._restoring, self._base, follows=False):
+            with acting_as(self._base_owner):
+                handle = os.open(self._restoring, _FOLDER, dir_fd=self._base)
+            with files.closing(handle):
+                _lock(handle, self.room)
+                if not self._has_old(handle):
+                    self._remove(self._restoring)
+                else:
+                    if files.look(f"{INNER}/{self._spool}", handle, follows=False) and not files.look(self._spool, self.handle, follows=False):
+                        self._exchange_names(handle)
+                    self._keep_old(handle)
+        if not self.is_within:
+            self._remove_second_names()
 
     @property
     def room(self) -> str:
         """The path of that folder."""
-        return f"{self.parent}/{self.name}.restoring"
+        return self._path_of(self._restoring)
+
+    def _path_of(self, name: str) -> str:
+        return f"{self.path if self.is_within else self.parent}/{name}"
 
     def exchange(self) -> str:
-        """The made folder takes the place. Where the one that was there is."""
+        """The made folder takes the place. Where the one that was there is, or nothing if the file system can't do this."""
         assert self._room
         name = self._free_name()
         os.fchmod(self._room.handle, 0o700)
-        os.rename(f"{self.name}.restoring", name, src_dir_fd=self._parent, dst_dir_fd=self._parent)
+        os.rename(self._restoring, name, src_dir_fd=self._parent, dst_dir_fd=self._parent)
         try:
             files.sync(self._room.handle)
             kernel.exchange(self._parent, self.name, self._room.handle, INNER)
         except OSError as error:
-            os.rename(name, f"{self.name}.restoring", src_dir_fd=self._parent, dst_dir_fd=self._parent)
+            os.rename(name, self._restoring, src_dir_fd=self._parent, dst_dir_fd=self._parent)
             if error.errno in _NEVER:
-                raise Failure(LATER, f"no other folder can take the place of {self.path} ({error.strerror}): {BY_HAND}") from None
+                return ""
             raise
         return f"{self.parent}/{name}/{INNER}"
+
+    def exchange_names(self) -> str:
+        """What is in the made folder takes the place of what was there. Where that is."""
+        assert self._room
+        self._room.folder(OLD, self.seen).sync()
+        files.sync(self._room.handle)
+        files.sync(self._base)
+        self._exchange_names(self._room.handle)
+        return f"{self.room}/{OLD}"
+
+    def _exchange_names(self, room: int) -> None:
+        with self._opened(INNER, room) as made, self._opened(OLD, room) as old, acting_as(self._owner):
+            byname.exchange(self.handle, made, old, self._spool)
+
+    def _opened(self, name: str, room: int) -> contextlib.AbstractContextManager[int]:
+        with acting_as(self._base_owner):
+            return files.opened(name, _FOLDER, folder=room)
+
+    def _has_old(self, room: int) -> bool:
+        """Whether something was taken out of the spool's folder."""
+        with contextlib.suppress(FileNotFoundError), self._opened(OLD, room) as old:
+            return bool(os.listdir(old))
+        return False
+
+    def keep_old(self) -> str:
+        """Behind that what was there is kept under another name."""
+        assert self._room
+        return self._keep_old(self._room.handle)
+
+    def _keep_old(self, room: int) -> str:
+        name = self._free_name()
+        with acting_as(self._base_owner):
+            os.fchmod(room, 0o700)
+            shutil.rmtree(INNER, ignore_errors=True, dir_fd=room)
+            os.rename(self._restoring, name, src_dir_fd=self._base, dst_dir_fd=self._base)
+            files.sync(self._base)
+        return f"{self._path_of(name)}/{OLD}"
 
     def put_aside(self, made: Target, spool: str) -> None:
         """Behind that the spool in the folder that was there gets another name, and all is on the disk."""
@@ -150,17 +206,20 @@ class Place:
         """Under which the folder that was there is kept."""
         head = f"{self.name}.before.{time.strftime('%Y%m%dT%H%M%SZ', time.gmtime(clock.now()))}"
         names = (f"{head}.{it}" if it > 1 else head for it in range(1, 1000))
-        return next(it for it in names if not os.path.lexists(f"{self.parent}/{it}"))
+        return next(it for it in names if not os.path.lexists(self._path_of(it)))
 
     def _lives_at(self, name: str) -> bool:
-        seen = files.look(name, self._parent, follows=False)
+        seen = files.look(name, self._base, follows=False)
         return seen is not None and stat.S_ISDIR(seen.st_mode)
 
     def _remove(self, name: str) -> None:
+        """Removes a folder. (In its own folder the spool's user does that, who may put one of root's in its place.)"""
         try:
-            shutil.rmtree(name, ignore_errors=True, dir_fd=self._parent)
+            with acting_as(self._base_owner):
+                shutil.rmtree(name, ignore_errors=True, dir_fd=self._base)
         except RecursionError:
-            raise Failure(LATER, f"{self.parent}/{name} has too many folders in each other: remove it by rm -rf") from None
+            its = f", as {self._owner}" if self.is_within else ""
+            raise Failure(LATER, f"{self._path_of(name)} has too many folders in each other: remove it by rm -rf{its}") from None
 
 
 def _mount_of(handle: int) -> bytes:

@@ -4,7 +4,8 @@ It is made whole in a new folder beside, and the program reads each row of it. I
 a next number above all that were given, loses the jobs that are gone since the copy was made, as the log says, and gets
 what is beside the spool that is there. A job that is gone because another one stood for it, which is lost with the spool that is
 there, waits again. Then both folders are exchanged in one step. So whenever the command is stopped, the site has one of the
-two spools, whole.
+two spools, whole. If no folder can take the place of the spool's, as of a mount point, what is in it is exchanged name by name. Then a
+stop may leave no spool, and the next run puts the new one there.
 
 root or the spool's user runs it. For root the owner of the spool's folder opens what is in it, and runs the program there."""
 import collections
@@ -386,7 +387,8 @@ class Restoration:
         came, is noted so, because it would be handed on again, or refused after some weeks."""
         import json  # (takes long to load)
 
-        names = {it for it in os.listdir(self._place.handle) if self._is_carried(it)}
+        # (If the folder stays, so does what the users have there.)
+        names = {it for it in os.listdir(self._place.handle) if self._is_carried(it) and (it in OURS or not self._place.is_within)}
         again = [f"pieces/{it}" for it in sorted(self._again)]
         without = [f"{self._place.path}/pieces/{it}" for it in self._again | self._finished.keys()]
         lost = [path for path, its in self._being_handed().items() if not its.keys() <= set(known)]
@@ -428,20 +430,37 @@ class Restoration:
         return [f"{self._source.name}-lock", *sorted(names)]
 
     def _exchange(self, made: Target) -> str:
-        """Where the folder that was there is then. These files stay the same. So a line that waits with the lock, and has the path of
-        the new spool, keeps its turn or fails, and no line of the log is lost. (No link is followed, and a name in the folder of the
-        spool's user becomes another one there.)"""
+        """Where what was there is then."""
+        path = "" if self._place.is_within else self._exchange_folders(made)
+        return path or self._exchange_names()
+
+    def _exchange_folders(self, made: Target) -> str:
+        """Where the folder that was there is then, or nothing if the file system can't do this. These files stay the same. So a line that
+        waits with the lock, and has the path of the new spool, keeps its turn or fails, and no line of the log is lost. (No link is
+        followed, and a name in the folder of the spool's user becomes another one there.)"""
         moved = self._files()
         for name in moved:
             os.link(name, name, src_dir_fd=self._place.handle, dst_dir_fd=made.handle, follow_symlinks=False)
-        path = self._place.exchange()
-        try:
-            self._place.put_aside(made, self._source.name)
-            for name in moved:
-                os.unlink(name, dir_fd=self._place.handle)
-        except OSError as error:
-            self.faults.append(f"the copy is put back, but a step behind that failed in {path}, where the spool that was there is ({error.strerror}): run this again")
+        if path := self._place.exchange():
+            try:
+                self._place.put_aside(made, self._source.name)
+                for name in moved:
+                    os.unlink(name, dir_fd=self._place.handle)
+            except OSError as error:
+                self._fail_behind(path, error)
         return path
+
+    def _exchange_names(self) -> str:
+        """Where that which was there is then, if the folder stays the same."""
+        path = self._place.exchange_names()
+        try:
+            path = self._place.keep_old()
+        except OSError as error:
+            self._fail_behind(path, error)
+        return path
+
+    def _fail_behind(self, path: str, error: OSError) -> None:
+        self.faults.append(f"the copy is put back, but a step behind that failed in {path}, where the spool that was there is ({error.strerror}): run this again")
 
     # ---- what is told
 

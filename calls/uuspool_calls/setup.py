@@ -1,5 +1,5 @@
 """uuspool-setup NAME CARRIER WORD..: makes this site call a neighbour, and defines it if the sys file doesn't.
-uuspool-setup NAME key KEY..: lets a neighbour, which has this public key, call here by ssh.
+uuspool-setup NAME key - | KEY..: lets a neighbour, which has this public key, or that of standard input, call here by ssh.
 uuspool-setup --from-taylor CARRIER: takes over the neighbours of Taylor UUCP (`fromtaylor.py`).
 uuspool-setup NAME seal [- | none]: gives a neighbour a key with which bundles are sealed: a new one, or with `-` the one
 of standard input. With `none` its bundles aren't sealed.
@@ -27,7 +27,7 @@ from .values import Any
 
 _USAGE = (
     "usage: uuspool-setup NAME ssh USER@HOST [OPTION..] | NAME folder FOLDER | NAME command PROGRAM.. | "
-    "NAME uucico | NAME taylor [--no-call] | NAME key KEY.. | NAME seal [- | none] | --from-taylor [-k] uucico|taylor [NAME..]"
+    "NAME uucico | NAME taylor [--no-call] | NAME key - | NAME key KEY.. | NAME seal [- | none] | --from-taylor [-k] [-j] uucico|taylor [NAME..]"
 )
 _ACCOUNT = "uuspool"
 _KINDS = "(ssh|ecdsa|sk)-"
@@ -46,6 +46,7 @@ def run(session: Session, words: Sequence[str]) -> int:
         Setup(session, name).seal(rest)
         return 0
     if carrier == "key":
+        rest = _key_in(session) if rest == ["-"] else rest
         _expect_key(rest)
     elif not is_name(carrier) or not os.path.isfile(f"{session.library}/carriers/{carrier}"):
         known = " ".join(files.names_in(f"{session.library}/carriers"))
@@ -59,6 +60,13 @@ def run(session: Session, words: Sequence[str]) -> int:
     else:
         setup.call_by(carrier, rest)
     return 0
+
+
+def _key_in(session: Session) -> list[str]:
+    """The words of the only line of standard input. (A neighbour wrote it, and root's shell mustn't read it.)"""
+    text = session.processes.read_input(0, _MOST_OF_A_KEY, session.call_limit) or b""
+    lines = text.decode(errors="replace").splitlines()
+    return lines[0].split() if len(lines) == 1 else []
 
 
 def _expect_key(words: Sequence[str]) -> None:
@@ -169,8 +177,10 @@ class Setup:
         if carrier == "ssh":
             self._make_key()
             self._find_host(words)
-            self._session.print(f"Run this as root at {self._name}, so that {self._own} may call there:")
-            self._session.print(f"uuspool-setup {self._own} key {' '.join(self._public_key())}")
+            key = " ".join(self._public_key())
+            self._session.print(f"Run this as root at {self._name}, and give it the line below it as its input, so that {self._own} may call there:")
+            self._session.print(f"uuspool-setup {self._own} key -")
+            self._session.print(key)
         self._session.print(f"uuspool-call {self._name} calls {self._name} now, and uuspool-night when it is due.")
 
     def write_entry(self, text: str) -> None:

@@ -5,13 +5,12 @@ Keywords of ports, chats and protocols stay in Taylor's files, and nothing is sa
 to make the same call, so its times are times of the system."""
 import os
 import re
-import shlex
 from collections.abc import Iterator, Sequence
 
 from . import files
 from .session import acting_as
 from .taylor import Waiting
-from .texts import is_name, printable
+from .texts import is_name
 from .values import NamedTuple
 
 _TIMES = ("time", "timegrade")
@@ -43,7 +42,6 @@ _LOST_BY_BUNDLES = {
 }
 _WHOLE_DAY = re.compile(r"(\d{4})-\1")
 _MOST_OF_A_JOB = 1 << 16  # bytes of what Taylor says of one
-_MOST_TO_PASTE = 4000  # bytes: a terminal drops what a line has beyond 4,095, also its quotes, unless the shell has an editor
 _NO_LIMIT = "1000000"  # the most that a sys file may have
 
 
@@ -163,27 +161,29 @@ def lines_in(text: str) -> Iterator[Line]:
 # ---- what waits in Taylor's spool
 
 
-def queued_here(library: str, spool: str, owner: str, job: Waiting) -> str:
-    """The line of a shell that queues a job of Taylor's spool here, and takes it out there. Nothing if no line does. root
-    types it, so the spool's user opens the file of the bytes, which is Taylor's copy, and runs Taylor's program, a file of this
-    user, which gets nothing of root's. (A file that Taylor didn't copy is its sender's, who may put a link there.)"""
+class Task(NamedTuple):
+    """What a job of Taylor's spool is here: the words of the program, and the path of its bytes, or nothing if it has none."""
+
+    words: tuple[str, ...]
+    data: str
+
+
+def task_of(spool: str, owner: str, job: Waiting) -> Task | None:
+    """What queues a job of Taylor's spool here, or None if nothing does. Its bytes are Taylor's copy. (A file that Taylor didn't copy is
+    its sender's, who may put a link there.)"""
     gap = f"{job.system}."
     if not is_name(job.system) or not is_name(job.id) or not job.id.startswith(gap):
-        return ""
+        return None
     with acting_as(owner):
         text = files.read_bytes(f"{spool}/{job.system}/C./C.{job.id.removeprefix(gap)}", _MOST_OF_A_JOB) or b""
     lines = text.decode(errors="surrogateescape").splitlines()
     words = lines[0].split(" ") if len(lines) == 1 else []
     queued, data = _task(words)
     if not queued:
-        return ""
-    grade = job.id.removeprefix(gap)[:1]
+        return None
     kind, *rest = queued
-    line = " ".join(map(_quoted, ["uuspool", f"--as={words[3]}", kind, f"-g{grade}", "--", job.system, *rest]))
-    given = f" <{_quoted(f'{spool}/{job.system}/D./{data}')}" if data else ""
-    its_line = _quoted(f"{line}{given} && uustat -k {_quoted(job.id)}")
-    typed = f"{_quoted(f'{library}/as-owner')} {_quoted(owner)} sh -c {its_line} </dev/null 2>&1 | cat -v"
-    return typed if len(typed) <= _MOST_TO_PASTE else ""
+    line = f"--as={words[3]}", kind, f"-g{job.id.removeprefix(gap)[:1]}", "--", job.system, *rest
+    return Task(line, f"{spool}/{job.system}/D./{data}" if data else "")
 
 
 def _task(words: Sequence[str]) -> tuple[list[str], str]:
@@ -197,7 +197,3 @@ def _task(words: Sequence[str]) -> tuple[list[str], str]:
         to = words[2] if words[2].startswith("~/") else f"~/{os.path.basename(words[2]) or os.path.basename(words[1])}"
         return ["request", words[1], to], ""
     return [], ""
-
-
-def _quoted(word: str) -> str:
-    return shlex.quote(printable(word))
