@@ -251,7 +251,8 @@ class Restoration:
         with acting_as(self._owner):
             paths = [path for system in files.names_in(folder) if os.path.exists(path := f"{folder}/{system}/begun.json")]
             for path in paths:
-                numbers, jobs = map(files.read_record(path).get, ("numbers", "jobs"))
+                record = files.read_record(path)
+                numbers, jobs = record.get("numbers"), record.get("jobs")
                 if isinstance(numbers, list):
                     its = itertools.zip_longest(numbers, jobs if isinstance(jobs, list) else ())
                     found[path] = {number: _user_of(job) for number, job in its if isinstance(number, int)}
