@@ -178,6 +178,20 @@ class Rounds(Folder):
         self.assertEqual(["3 jobs wait for the next round"], here.session.said)
 
 
+    def test_a_delivery_that_cannot_begin_ends_no_other(self) -> None:
+        """As at a limit of processes. The command of the first would be run again."""
+        here = site(self.folder, StandIn())
+
+        def delivery(session: Session, deliverer: deliver.Deliverer, number: int) -> Child:
+            if number == 2:
+                raise BlockingIOError(errno.EAGAIN, "Resource temporarily unavailable")
+            return Child(lambda: time.sleep(0.5) or 3)
+
+        with Lock(f"{self.folder}/deliver/round.lock") as lock, mock.patch.object(deliver, "_delivery", delivery):
+            self.assertEqual([(1, 3)], deliver._deliver_all(here, deliver.Deliverer(here), [1, 2, 4], lock))
+        self.assertRegex("".join(here.session.said), r"^no process can begin now.*: 2 jobs wait for the next round$")
+
+
 class Clean(Folder):
     def test_old_records_of_jobs_that_are_gone(self) -> None:
         spool = StandIn([parcel()])
