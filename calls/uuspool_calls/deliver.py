@@ -121,17 +121,26 @@ def _deliver_all(site: Site, deliverer: "Deliverer", numbers: Sequence[int], loc
             if clock.running() >= ends or not children.has_place(usual):
                 site.session.say(f"{len(numbers) - begun} jobs wait for the next round")
                 break
-            if begun and begun % _AT_A_LOOK == 0 and not refusals.forget_excess(site):
+            if begun and begun % _AT_A_LOOK == 0 and not _forget_excess(site):
                 site.session.say(f"{len(numbers) - begun} jobs wait for the next round, because more was refused than is kept, and nobody can be told")
                 break
             if not children.start(partial(_delivery, site.session, deliverer, number), number):
                 site.session.say(f"{NONE_BEGINS}: {len(numbers) - begun} jobs wait for the next round")
                 break
         children.wait(usual)
-        refusals.forget_excess(site)
+        _forget_excess(site)
         lock.give_back()
         children.wait()
     return children.ended
+
+
+def _forget_excess(site: Site) -> bool:
+    """Whether more can be refused. (If nobody knows it, no command that works is ended for that.)"""
+    try:
+        return refusals.forget_excess(site)
+    except Failure as why:
+        site.session.say(str(why))
+        return False
 
 
 def _still_working(folder: str) -> int:
