@@ -1,4 +1,5 @@
 """What the commands do with words, and small decisions of theirs."""
+import errno
 import os
 import pwd
 import signal
@@ -6,9 +7,9 @@ import time
 from unittest import mock
 from unittest.mock import patch
 
-from uuspool_calls import bundle, call, carriers, check, cli, expire, files, hold, move, night, setup, sysfile, taylor
+from uuspool_calls import bundle, call, carriers, check, cli, deliver, expire, files, hold, move, night, setup, sysfile, taylor
 from uuspool_calls.carriers import folder, ssh, uucico
-from uuspool_calls.errors import Failure, Stopped
+from uuspool_calls.errors import Failure, SpoolError, Stopped
 from uuspool_calls.jobs import Job
 from uuspool_calls.pieces import COMMAND
 from uuspool_calls.processes import Child, Children, Ended, Processes
@@ -628,6 +629,27 @@ class Rounds(Folder):
         with mock.patch.multiple(night, Children=Kept, _begun=begun, _MINUTE=0.2), self.assertRaises(Stopped):
             night._go_on(site(self.folder, StandIn()), None)
         self.assertEqual([0] * 4, known)
+
+
+    def slow(self, session: object = None, words: object = None) -> int:
+        time.sleep(0.5)
+        self.put("whole")
+        return 0
+
+    def test_a_round_that_cannot_begin_ends_no_other(self) -> None:
+        """As at a limit of processes."""
+        here, begun = site(self.folder, StandIn()), mock.Mock(side_effect=[Child(self.slow), BlockingIOError(errno.EAGAIN, ""), BlockingIOError(errno.EAGAIN, ""), Stopped])
+        with mock.patch.multiple(night, _begun=begun, _MINUTE=0.3), self.assertRaises(Stopped):
+            night._go_on(here, None)
+        self.assertTrue(os.path.exists(f"{self.folder}/whole"))
+        self.assertRegex(here.session.said[0], "^no process can begin now.*so there is no round in this minute$")
+
+    def test_a_question_without_an_answer_ends_no_delivery(self) -> None:
+        spool = StandIn()
+        spool.fails["due"] = SpoolError(3, "uuspool: spool: store")
+        with mock.patch.object(deliver, "run", self.slow), self.assertRaisesRegex(Failure, "what is due"):
+            night.Night(site(self.folder, spool)).make(None)
+        self.assertTrue(os.path.exists(f"{self.folder}/whole"))
 
 
 class Entering(Folder):

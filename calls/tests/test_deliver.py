@@ -180,6 +180,30 @@ class Rounds(Folder):
         self.assertEqual(["3 jobs wait for the next round"], here.session.said)
 
 
+    def test_a_delivery_that_cannot_begin_ends_no_other(self) -> None:
+        """As at a limit of processes. The command of the first would be run again."""
+        here = site(self.folder, StandIn())
+
+        def delivery(session: Session, deliverer: deliver.Deliverer, number: int) -> Child:
+            if number == 2:
+                raise BlockingIOError(errno.EAGAIN, "Resource temporarily unavailable")
+            return Child(lambda: time.sleep(0.5) or 3)
+
+        with Lock(f"{self.folder}/deliver/round.lock") as lock, mock.patch.object(deliver, "_delivery", delivery):
+            self.assertEqual([(1, 3)], deliver._deliver_all(here, deliver.Deliverer(here), [1, 2, 4], lock))
+        self.assertRegex("".join(here.session.said), r"^no process can begin now.*: 2 jobs wait for the next round$")
+
+
+    def test_a_look_at_what_was_refused_ends_no_delivery(self) -> None:
+        """Such as one that waits in vain for another process that refuses jobs."""
+        here = site(self.folder, StandIn())
+        looks = mock.patch("uuspool_calls.refusals.forget_excess", side_effect=Failure(75, "jobs are being refused by another process"))
+        deliveries = mock.patch.multiple(deliver, _delivery=lambda *words: Child(lambda: time.sleep(0.5) or 3), _MARGIN=-50, _AT_A_LOOK=1)
+        with Lock(f"{self.folder}/deliver/round.lock") as lock, looks, deliveries:
+            self.assertEqual([(1, 3)], deliver._deliver_all(here, deliver.Deliverer(here), [1, 2], lock))
+        self.assertEqual(("jobs are being refused by another process", 3), (here.session.said[0], len(here.session.said)))
+
+
 class Clean(Folder):
     def test_old_records_of_jobs_that_are_gone(self) -> None:
         spool = StandIn([parcel()])

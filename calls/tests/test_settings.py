@@ -15,6 +15,13 @@ class Settings(Folder):
         self.assertEqual(("mysite", f"{self.folder}/uuspool.toml", self.folder), (found.name, found.path, found.start))
         self.assertEqual((f"{self.folder}/s/a b.db", f"{self.folder}/s", f"{self.folder}/s/log"), (found.spool, found.folder, found.log))
 
+    def test_a_path_is_no_line_of_its_own(self) -> None:
+        """The spool's user names it, and root would work at another site, and believe that root wrote these settings."""
+        for sign in "\r\v\f\x1c\x1d\x1e\x85\u2028\u2029":
+            path = f"/k{sign}settings /etc/uuspool/uuspool.toml{sign}spool /root/spool.db"
+            found = settings.read(f"{SITE.format(self.folder)}seals {path}\n")
+            self.assertEqual((f"{self.folder}/uuspool.toml", f"{self.folder}/s/a b.db", path), (found.path, found.spool, found.seals), repr(sign))
+
     def test_clocks(self) -> None:
         for line, zone in (
             ("", "<site>-0:0"), ("offset 345", "<site>-5:45"), ("offset -300", "<site>+5:0"), ("zone CET-1CEST", "CET-1CEST"), ("offset 0", "<site>-0:0"),

@@ -21,7 +21,7 @@ from .delivery import Asked, Delivery, Outcome, StillWorks
 from .errors import LATER, USAGE, Delay, Failure, Refusal, SpoolError, spool_needed
 from .jobs import REQUEST, Delivered, Job, Parcel
 from .letters import Mailroom, NotSent
-from .processes import Child, Children, named
+from .processes import NONE_BEGINS, Child, Children, named
 from .refusals import Refuser
 from .session import Session
 from .site import Site, enter
@@ -65,7 +65,9 @@ def _take_executions(site: Site, children: Children) -> None:
     for name in executions.neighbours(site):
         if not children.has_place(ends - clock.running()):
             break
-        children.start(partial(_taking, site, name))
+        if not children.start(partial(_taking, site, name)):
+            site.session.say(f"{NONE_BEGINS}: what {name} brought waits for the next round")
+            break
     children.wait(ends - clock.running())
 
 
@@ -119,15 +121,26 @@ def _deliver_all(site: Site, deliverer: "Deliverer", numbers: Sequence[int], loc
             if clock.running() >= ends or not children.has_place(usual):
                 site.session.say(f"{len(numbers) - begun} jobs wait for the next round")
                 break
-            if begun and begun % _AT_A_LOOK == 0 and not refusals.forget_excess(site):
+            if begun and begun % _AT_A_LOOK == 0 and not _forget_excess(site):
                 site.session.say(f"{len(numbers) - begun} jobs wait for the next round, because more was refused than is kept, and nobody can be told")
                 break
-            children.start(partial(_delivery, site.session, deliverer, number), number)
+            if not children.start(partial(_delivery, site.session, deliverer, number), number):
+                site.session.say(f"{NONE_BEGINS}: {len(numbers) - begun} jobs wait for the next round")
+                break
         children.wait(usual)
-        refusals.forget_excess(site)
+        _forget_excess(site)
         lock.give_back()
         children.wait()
     return children.ended
+
+
+def _forget_excess(site: Site) -> bool:
+    """Whether more can be refused. (If nobody knows it, no command that works is ended for that.)"""
+    try:
+        return refusals.forget_excess(site)
+    except Failure as why:
+        site.session.say(str(why))
+        return False
 
 
 def _still_working(folder: str) -> int:

@@ -9,7 +9,7 @@ from functools import partial
 from . import carriers, cli, deliver, files, options
 from .contacts import is_fresh
 from .errors import USAGE, Failure, spool_needed
-from .processes import Child, Children, Program, named
+from .processes import NONE_BEGINS, Child, Children, Program, named
 from .session import Session
 from .site import ROUND, VACUUM, Site, enter
 
@@ -43,7 +43,8 @@ def _go_on(site: Site, minutes: int | None) -> None:
     words = [] if minutes is None else ["-p", str(minutes)]
     with Children(site.session.processes, _MOST_ROUNDS) as rounds:
         while True:
-            rounds.start(partial(_begun, site, words))
+            if not rounds.start(partial(_begun, site, words)):
+                site.session.say(f"{NONE_BEGINS}, so there is no round in this minute")
             rounds.reap(_MINUTE)
             rounds.ended.clear()  # (this goes on for years)
 
@@ -66,19 +67,33 @@ class Night:
 
         return Child(work)
 
+    def _start(self, children: Children, name: str, command: cli.Command, *words: str) -> None:
+        """What can't begin now waits for the next round."""
+        if not children.start(partial(self._forked, name, command, *words)):
+            self._site.session.say(f"{NONE_BEGINS}: {' '.join((name, *words))} waits for the next round")
+
     def make(self, minutes: int | None) -> None:
         """Makes the round. It also polls who wasn't called for so many minutes, if some are given, or for those of
         its entry."""
-        processes, at_once = self._site.session.processes, self._site.session.at_once
-        with Children(processes, 1) as deliveries, Children(processes, at_once) as calls:
-            deliveries.start(partial(self._forked, "uuspool-deliver", deliver.run))
+        failed: Failure | OSError | None = None
+        with Children(self._site.session.processes, 1) as deliveries:
+            self._start(deliveries, "uuspool-deliver", deliver.run)
+            try:
+                self._make_calls(minutes)
+            except (Failure, OSError) as why:  # (No command that works meanwhile is ended for it.)
+                failed = why
+            deliveries.wait()
+        if failed:
+            raise failed
+        files.touch_if_possible(f"{self._site.folder}/{ROUND}")
+        self._vacuum()
+
+    def _make_calls(self, minutes: int | None) -> None:
+        with Children(self._site.session.processes, self._site.session.at_once) as calls:
             self._take_back(calls)
             due = self._due()
             self._call(calls, "-n", due)
             self._call(calls, "-np", self._quiet(minutes, due))
-            deliveries.wait()
-        files.touch_if_possible(f"{self._site.folder}/{ROUND}")
-        self._vacuum()
 
     def _vacuum(self) -> None:
         """Once a day, gives back the room that the spool's file no longer needs. (The program knows if there is some.)"""
@@ -96,7 +111,7 @@ class Night:
             from . import call
 
             for neighbour in handed:
-                calls.start(partial(self._forked, "uuspool-call", call.take_back, neighbour))
+                self._start(calls, "uuspool-call", call.take_back, neighbour)
 
     def _call(self, calls: Children, option: str, neighbours: Sequence[str]) -> None:
         """Calls these neighbours. (Most rounds call nobody, so this is loaded late, and once for all calls.)"""
@@ -104,7 +119,7 @@ class Night:
             from . import call
 
             for neighbour in neighbours:
-                calls.start(partial(self._forked, "uuspool-call", call.run, option, neighbour))
+                self._start(calls, "uuspool-call", call.run, option, neighbour)
             calls.wait()
 
     def _due(self) -> list[str]:

@@ -1,5 +1,6 @@
 """Programs that a command runs. A stop of the command ends those that may take long."""
 import contextlib
+import errno
 import os
 import select
 import signal
@@ -20,6 +21,8 @@ _MOST_HANDLES = 1 << 20  # of a process, unless root raises fs.nr_open. Whoever 
 _ADOPTS = 36  # for the kernel: processes below this one whose parents end become its children
 _LONGEST = 86400  # seconds that one wait takes
 _LOOK = 0.5  # seconds after which whoever watches a program looks again
+
+NONE_BEGINS = "no process can begin now, as at a limit (TasksMax, ulimit -u)"
 
 Streams = tuple[int, int, int]  # the open files that are a program's input, output and errors
 # Whoever watches a program: how many bytes of its input it has read, and what it has written so far.
@@ -403,11 +406,17 @@ class Children:
         if kind:
             self._end_all()
 
-    def start(self, begin: Callable[[], Child], number: int = 0) -> None:
-        """Begins a process, once there is a place for it."""
+    def start(self, begin: Callable[[], Child], number: int = 0) -> bool:
+        """Begins a process, once there is a place for it. False if none can begin now, as at a limit: the others go on."""
         self.wait(left=self._at_once - 1)
-        child = begin()
+        try:
+            child = begin()
+        except OSError as error:
+            if error.errno not in (errno.EAGAIN, errno.ENOMEM):
+                raise
+            return False
         self._running[os.pidfd_open(child.pid)] = child, number
+        return True
 
     def has_place(self, seconds: float) -> bool:
         """Waits for a place, so long at most."""

@@ -59,8 +59,9 @@ def find(session: Session, options: Sequence[str] = (), without: str = "") -> Se
 
 
 def read(text: str) -> Settings:
-    """The settings in an output of `uuspool site`: a line each, a word and its value."""
-    found = dict(line.partition(" ")[::2] for line in text.splitlines())
+    """The settings in an output of `uuspool site`: a line each, a word and its value. (A path may have what ends a line for Python, but
+    no line feed.)"""
+    found = dict(line.partition(" ")[::2] for line in text.split("\n"))
     zone = found.get("zone") or _zone_of(int(found.get("offset", 0)))
     limit = int(found.get("limit", 0))
     try:
