@@ -9,7 +9,7 @@ import unittest
 import uuspool_calls
 
 TOP = os.path.dirname(uuspool_calls.__file__)
-OFTEN = {"call": 73, "answer": 69, "deliver": 82, "night": 84, "withoutkeys": 58}  # run by cron, by mailers and members, and by neighbours: how many modules each may load
+OFTEN = {"call": 72, "answer": 69, "deliver": 82, "night": 84, "withoutkeys": 58}  # run by cron, by mailers and members, and by neighbours: how many modules each may load
 SLOW = {"argparse", "dataclasses", "datetime", "hashlib", "json", "re", "shutil", "subprocess", "tempfile", "threading", "tomllib", "typing"}
 LAST = ["answer", "backup", "restore", "call", "sysfile", "check", "deliver", "expire", "hold", "postfix", "login", "asowner", "withoutkeys", "move", "refuse", "fromtaylor", "setup", "night"]
 

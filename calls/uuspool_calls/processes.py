@@ -1,6 +1,5 @@
 """Programs that a command runs. A stop of the command ends those that may take long."""
 import contextlib
-import errno
 import os
 import select
 import signal
@@ -412,6 +411,8 @@ class Children:
         try:
             child = begin()
         except OSError as error:
+            import errno  # (which few starts need)
+
             if error.errno not in (errno.EAGAIN, errno.ENOMEM):
                 raise
             return False
