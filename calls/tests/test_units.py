@@ -74,6 +74,9 @@ class Units(unittest.TestCase):
             text = file.read()
         limit, timeout = (int(re.findall(f"(?m)^{key}=(.*)$", text)[0]) for key in ("Environment=UUSPOOL_CALL_LIMIT", "TimeoutStartSec"))
         self.assertLess(limit + processes._GRACE + processes._MARGIN, timeout)
+        with open(f"{TOP}/packaging/cron", encoding="utf-8") as file:
+            (limit,) = re.findall(r"(?m)^# \* \* \* \* \* root UUSPOOL_CALL_LIMIT=(\d+) /usr/bin/uuspool-check", file.read())
+        self.assertLess(int(limit) + processes._GRACE + processes._MARGIN, 60)
 
     @unittest.skipUnless(os.geteuid() == 0 and shutil.which("setpriv"), "only root runs a program as another user, and gives up rights before")
     def test_figures_end_what_another_user_runs(self) -> None:

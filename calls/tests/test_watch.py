@@ -235,6 +235,12 @@ class Checked(Folder):
                 self.check._check_su(self.put("su", text))
             self.assertEqual([f"add the line '{line}' to {self.folder}/su"] * found, re.findall("add the line .* to [^,]*", "".join(self.said)))
 
+    def test_as_whom_sendmail_runs_programs(self) -> None:
+        for text, found in ("", 0), ("O DefaultUser=mail:mail\n", 0), ("#O DefaultUser=root\n", 0), ("O DefaultUser=root:root\n", 1), ("O DefaultUser = 0.0\n", 1), ("O DefaultUser=root\nO DefaultUser=mail\n", 0):
+            self.said.clear()
+            self.check._check_sendmail(self.put("sendmail.cf", text))
+            self.assertEqual([f"{self.folder}/sendmail.cf: sendmail runs programs of its aliases as root"] * found, [it.partition(", who")[0] for it in self.said], text)
+
     def test_login_shells(self) -> None:
         ours = self.put("lib/uuspool/uucico-login", "#!/bin/sh\n", 0o755)
         os.symlink(f"{self.folder}/lib", f"{self.folder}/same")
