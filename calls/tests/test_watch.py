@@ -280,6 +280,14 @@ class Checked(Folder):
             self.assertFalse(self.check.spool())
         self.assertEqual([f"{self.folder} belongs to user 12345, who has no account: chown -R uucp {self.folder}"], self.said)
 
+    def test_a_shell_runs_no_path_of_the_spool(self) -> None:
+        path = f"{self.folder}/$(id).db"
+        os.symlink(self.put("x", "x"), path)
+        self.check._settings = self.check._settings._replace(spool=path, log=f"{self.folder}/log")
+        self.check._owner = user_name(os.geteuid())
+        self.check._check_folder()
+        self.assertEqual([f"'{path}-word' is missing or empty", f"'{path}' is no file"], [it.partition(",")[0] for it in self.said])
+
     def test_the_log(self) -> None:
         for path in "spool.db", "spool.db-word":
             self.put(path, "x", 0o600)
