@@ -244,9 +244,9 @@ class QueuedAgain(Folder):
         os.makedirs(f"{self.folder}/refused/8.file")
         os.symlink(self.put("roots", f"why\n{job.format('exec')}"), f"{self.folder}/refused/link")
         os.mkfifo(f"{self.folder}/refused/pipe")
-        for name, text in ("kill", job.format("kill")), ("short", job.format("exec")[:-1]), ("none", ""), ("few", "7 mysite"), ("7.waiting.untold", job.format("exec")):
+        for name, text in ("kill", job.format("kill")), ("short", job.format("exec")[:-1]), ("none", ""), ("few", "7 mysite"), ("7.waiting.untold", job.format("exec")), ("3", job.format("exec")), ("3.why", "why"):
             self.put(f"refused/{name}", f"why\n{text}")
-        for name, status in ("kill", 75), ("short", 75), ("none", 75), ("few", 75), ("7.waiting.untold", 75), ("9", 1), ("../roots", 64), (".seen", 64), ("-q", 64):
+        for name, status in ("kill", 75), ("short", 75), ("none", 75), ("few", 75), ("7.waiting.untold", 75), ("3", 75), ("9", 1), ("../roots", 64), (".seen", 64), ("-q", 64):
             with self.assertRaises(Failure) as raised:
                 self.queue(name, "duke")
             self.assertEqual(status, raised.exception.status, name)

@@ -65,6 +65,8 @@ def _queue_again(session: Session, name: str, systems: Sequence[str]) -> int:
     path = f"{site.folder}/refused/{name}"
     if name.endswith(WAITING):
         raise Failure(LATER, f"{path}: this job may still wait: call or deliver first")
+    if files.look(f"{path}.why", follows=False):  # (Its first line is the job, so the next one would be a stranger's.)
+        raise Failure(LATER, f"{path} was kept by version 1.0.0, without the line that says why: queue it again by hand")
     parcel = _kept(path)
     job = parcel.job
     with spool_needed(f"{path} can't be queued for {systems[0]}"):
