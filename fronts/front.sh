@@ -227,7 +227,7 @@ act_as_owner() {
     spool=$bin/uuspool
     ! [ -O "$folder" ] || return 0
     [ "$settings" = /etc/uuspool/uuspool.toml ] || export UUSPOOL_DIR="${settings%/*}"
-    as_owner="$lib/as-owner $owner" spool=ask_as_owner
+    as_owner="$lib/as-owner -m $most_printed $owner" spool=ask_as_owner
 }
 
 # Runs a line as the owner, with no input but that of a job. Whatever else the owner runs may write into its pipe, so as-owner ends what
