@@ -17,7 +17,7 @@ _uuspool_call() {
     uuspool-move) options='-k' ;;
     uuspool-refuse) options='-q' ;;
     uuspool-sys) options='-n' ;;
-    uuspool-setup) options='--from-taylor -k -j --no-call' ;;
+    uuspool-setup) options='--from-taylor -k --no-call' ;;
     uuspool-backup) options='-k' ;;
     uuspool-restore) options='-n' ;;
     uuspool-check) options='--metrics --monitor -s -w -c -W -C -r -m' ;;
@@ -30,7 +30,7 @@ _uuspool_call() {
     *) mapfile -t COMPREPLY < <(compgen -W "$options" -- "$word") ;;
     esac
     case $command:$COMP_CWORD:$before in
-    uuspool-setup:2:--from-taylor) words='-k -j uucico taylor' ;;
+    uuspool-setup:2:--from-taylor) words='-k uucico taylor' ;;
     uuspool-setup:2:*) words='ssh folder command uucico taylor key seal' ;;
     uuspool-hold:2:*) words='off' ;;
     uuspool-setup:*:folder | uuspool-backup:* | uuspool-restore:*) _uuspool_paths -d "$word" ;;

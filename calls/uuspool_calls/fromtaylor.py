@@ -2,24 +2,23 @@
 names, over into this site, with the carrier `uucico` or `taylor`. What an operator wrote here stays. If something of
 that is there, nothing changes, and it prints what would; with -k it leaves that as it is, and adds the rest.
 
-It names the lines of Taylor's file whose meaning is lost, and prints what waits in Taylor's spool. With -j it queues that here instead. (A
-user chose its words, so root types none of them.)"""
+It names the lines of Taylor's file whose meaning is lost, and prints what waits in Taylor's spool."""
 import os
 from collections.abc import Callable, Sequence
 from typing import Protocol
 
-from . import files, options, turn
+from . import files, options
 from .carriers import BY_BUNDLES, BY_JOBS, NO_CALL, TAYLORS, entry_of
-from .errors import LATER, NOT_SET_UP, USAGE, Failure
+from .errors import NOT_SET_UP, USAGE, Failure
 from .handover import handed_in
 from .session import Session, acting_as
 from .site import find_from_anywhere, owner_of
-from .taylor import Taylor, Waiting
-from .taylorsys import Line, SysFile, System, Task, lines_in, task_of
-from .texts import is_name, one_line, printable
+from .taylor import Taylor
+from .taylorsys import Line, SysFile, System, lines_in
+from .texts import is_name, printable
 from .values import NamedTuple
 
-_USAGE = "usage: uuspool-setup --from-taylor [-k] [-j] uucico|taylor [NAME..]"
+_USAGE = "usage: uuspool-setup --from-taylor [-k] uucico|taylor [NAME..]"
 _NODENAMES = ("nodename", "hostname", "uuname")
 _CONFIG, _SYS = "/etc/uucp/config", "/etc/uucp/sys"
 
@@ -58,7 +57,7 @@ class Plan(NamedTuple):
 
 def run(session: Session, words: Sequence[str], setup_of: Callable[[str], Definer]) -> int:
     """The command. The status is 1 if something is there, and nothing was changed."""
-    given, rest = options.read(words, "kj", _USAGE)
+    given, rest = options.read(words, "k", _USAGE)
     carrier, *names = rest or [""]
     if carrier not in TAYLORS:
         raise Failure(USAGE, _USAGE)
@@ -70,7 +69,8 @@ def run(session: Session, words: Sequence[str], setup_of: Callable[[str], Define
     over.tell_lost()
     status = over.carry_out(names, "k" in given)
     over.tell_own()
-    return over.tell_waiting(names, "j" in given and not status) or status
+    over.tell_waiting(names)
+    return status
 
 
 class Files(NamedTuple):
@@ -177,49 +177,17 @@ class TakeOver:
                 f"Taylor's sys file needs 'max-remote-debug none' for {' '.join(open_ones)}: without it a call turns Taylor's debugging on, and fills the disk."
             )
 
-    def tell_waiting(self, names: Sequence[str], takes: bool) -> int:
-        """Prints what waits in Taylor's spool, but for what this site gave it, or queues it here. The status is LATER if that fails."""
+    def tell_waiting(self, names: Sequence[str]) -> None:
+        """Prints what waits in Taylor's spool, but for what this site gave it. It goes with Taylor's next call. (Nothing queues it here instead:
+        a call that goes on may be sending it, or a stop may leave it in both spools, and then it comes twice.)"""
         found = find_from_anywhere(self._session)
         owner = self._owner or owner_of(found)
-        taylor = Taylor(self._session, owner=owner)
-        waiting = [job for job in taylor.waiting() if not names or job.system in names]
+        waiting = [job for job in Taylor(self._session, owner=owner).waiting() if not names or job.system in names]
         systems = filter(is_name, {job.system for job in waiting})
         with acting_as(owner):
             ours = [it.id for system in systems for it in handed_in(f"{found.folder}/taylor/{system}")]
         jobs = [job for job in waiting if job.id not in ours]  # (Those wait here, too.)
         if jobs:
-            goes = "is queued here instead:" if takes else "goes with Taylor's next call. With -j it is queued here instead:"
-            self._session.print(f"What waits in Taylor's spool {goes}")
-        spool, failed = taylor.spool() if jobs else "", False
+            self._session.print("What waits in Taylor's spool goes with Taylor's next call:")
         for job in jobs:
-            task = task_of(spool, owner, job)
             self._session.print(printable(f"{job.id} {job.user} {job.what}"))
-            if not task:
-                self._session.print("    (It can't be queued here: leave it to Taylor.)")
-            elif takes:
-                why = self._queue(owner, task)
-                failed = failed or bool(why)
-                self._take_out(taylor, job, why)
-        return LATER if failed else 0
-
-    def _queue(self, owner: str, task: Task) -> str:
-        """Queues a job here. Why that failed, or nothing. (The spool's user opens its bytes, and may put anything there.)"""
-        line = [self._session.program, *task.words]
-        if not task.data:
-            ended = self._session.run_as(owner, line)
-        else:
-            try:
-                with acting_as(owner):
-                    data = turn.opened(task.data, os.O_RDONLY, any_names=True)
-            except OSError as error:
-                return f"{task.data}: {error.strerror}"
-            with files.closing(data):
-                ended = self._session.run_as(owner, line, data)
-        return one_line(ended.errors + ended.output) or f"uuspool ended with status {ended.status}" if ended.status else ""
-
-    def _take_out(self, taylor: Taylor, job: Waiting, why: str) -> None:
-        if why:
-            self._session.print(printable(f"    (It stays there: {why})"))
-        else:
-            taylor.kill(job.id)
-            self._session.print("    (It waits here.)")

@@ -27,7 +27,7 @@ from .values import Any
 
 _USAGE = (
     "usage: uuspool-setup NAME ssh USER@HOST [OPTION..] | NAME folder FOLDER | NAME command PROGRAM.. | "
-    "NAME uucico | NAME taylor [--no-call] | NAME key - | NAME key KEY.. | NAME seal [- | none] | --from-taylor [-k] [-j] uucico|taylor [NAME..]"
+    "NAME uucico | NAME taylor [--no-call] | NAME key - | NAME key KEY.. | NAME seal [- | none] | --from-taylor [-k] uucico|taylor [NAME..]"
 )
 _ACCOUNT = "uuspool"
 _KINDS = "(ssh|ecdsa|sk)-"

@@ -1,20 +1,14 @@
-"""What Taylor UUCP's sys file means for a site of uuspool: its times, the lines whose meaning is lost, and how a job
-that waits in Taylor's spool would be queued here instead.
+"""What Taylor UUCP's sys file means for a site of uuspool: its times, and the lines whose meaning is lost.
 
 Keywords of ports, chats and protocols stay in Taylor's files, and nothing is said of them. An alternate is another way
 to make the same call, so its times are times of the system."""
-import os
 import re
 from collections.abc import Iterator, Sequence
 
-from . import files
-from .session import acting_as
-from .taylor import Waiting
 from .texts import is_name
 from .values import NamedTuple
 
 _TIMES = ("time", "timegrade")
-_ANSWER = "uuspool-answer"  # the command of a bundle
 _OURS = (*_TIMES, "max-retries", "success-wait", "system", "timetable")
 _STAY = frozenset(
     "alternate default-alternates call-local-size call-remote-size called-local-size called-remote-size baud speed baud-range "
@@ -41,7 +35,6 @@ _LOST_BY_BUNDLES = {
     "myname": "bundles have this site's one name",
 }
 _WHOLE_DAY = re.compile(r"(\d{4})-\1")
-_MOST_OF_A_JOB = 1 << 16  # bytes of what Taylor says of one
 _NO_LIMIT = "1000000"  # the most that a sys file may have
 
 
@@ -156,44 +149,3 @@ def lines_in(text: str) -> Iterator[Line]:
         if words := whole.split():
             yield Line(begun, tuple(words))
         begun, before = 0, ""
-
-
-# ---- what waits in Taylor's spool
-
-
-class Task(NamedTuple):
-    """What a job of Taylor's spool is here: the words of the program, and the path of its bytes, or nothing if it has none."""
-
-    words: tuple[str, ...]
-    data: str
-
-
-def task_of(spool: str, owner: str, job: Waiting) -> Task | None:
-    """What queues a job of Taylor's spool here, or None if nothing does. Its bytes are Taylor's copy. (A file that Taylor didn't copy is
-    its sender's, who may put a link there.)"""
-    gap = f"{job.system}."
-    if not is_name(job.system) or not is_name(job.id) or not job.id.startswith(gap):
-        return None
-    with acting_as(owner):
-        text = files.read_bytes(f"{spool}/{job.system}/C./C.{job.id.removeprefix(gap)}", _MOST_OF_A_JOB) or b""
-    lines = text.decode(errors="surrogateescape").splitlines()
-    words = lines[0].split(" ") if len(lines) == 1 else []
-    queued, data = _task(words)
-    if not queued:
-        return None
-    kind, *rest = queued
-    line = f"--as={words[3]}", kind, f"-g{job.id.removeprefix(gap)[:1]}", "--", job.system, *rest
-    return Task(line, f"{spool}/{job.system}/D./{data}" if data else "")
-
-
-def _task(words: Sequence[str]) -> tuple[list[str], str]:
-    """The kind and the words of a job here, and the file of its bytes, for a line of Taylor's. (A bundle is no job. What is fetched comes
-    below the public folder alone.)"""
-    if words[:1] == ["E"] and len(words) > 9 and is_name(words[5]) and words[9] != _ANSWER:
-        return ["exec", *words[9:]], words[5]
-    if words[:1] == ["S"] and len(words) > 6 and not words[2].startswith(("X.", "D.")) and "C" in words[4] and is_name(words[5]):
-        return ["send", words[1], words[2]], words[5]
-    if words[:1] == ["R"] and len(words) > 4:
-        to = words[2] if words[2].startswith("~/") else f"~/{os.path.basename(words[2]) or os.path.basename(words[1])}"
-        return ["request", words[1], to], ""
-    return [], ""
