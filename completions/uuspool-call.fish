@@ -45,7 +45,6 @@ complete -c uuspool-check -n $monitor -s m -x -d 'Warns if fewer megabytes are f
 complete -c uuspool-setup -F -a 'ssh folder command uucico taylor key seal'
 complete -c uuspool-setup -l from-taylor -d 'Takes over the neighbours of Taylor UUCP'
 complete -c uuspool-setup -s k -d 'Leaves what is there, and adds the rest'
-complete -c uuspool-setup -s j -d 'Queues here what waits in its spool'
 complete -c uuspool-setup -l no-call -d 'Leaves calls to Taylor UUCP'
 
 for name in uuspool-log uulog
