@@ -216,7 +216,7 @@ END
 
 # Lines of root run as the user to whom the spool's folder belongs, because files of root would lock that
 # user out. They count as root's. Nothing in the working directory counts then. If nobody knows whose the folder is, no
-# line runs: as root it would work wherever the settings lead by then.
+# line runs: as root it would work wherever the settings lead by then. It is asked once, because the owner may put another folder there.
 act_as_owner() {
     spool=no_site
     ask_site || return 0
@@ -225,7 +225,7 @@ act_as_owner() {
     [ -d "$folder" ] || return 0
     expect_one_owner
     spool=$bin/uuspool
-    ! [ -O "$folder" ] || return 0
+    [ "$owner" != root ] || return 0
     [ "$settings" = /etc/uuspool/uuspool.toml ] || export UUSPOOL_DIR="${settings%/*}"
     as_owner="$lib/as-owner -m $most_printed $owner" spool=ask_as_owner
 }
