@@ -299,6 +299,12 @@ class Coming(Arrivals):
             self.delivery.deliver(self.job(words_of(DATA, 0), content, "a!eve"))
         self.assertEqual(3, len(self.kept()))
 
+    def test_no_letter_that_a_member_s_file_came_goes_to_a_neighbour(self) -> None:
+        """(A neighbour for which too many letters wait hears no more of refused jobs.)"""
+        with memory_file(DATA[:LENGTH]) as content, self.assertRaisesRegex(Refusal, "writes to its own users that a file came, not to a!joe"):
+            self.delivery.deliver(self.job(words_of(DATA, 0, "send", "/x", "~/x", "-na!joe"), content, "ann"))
+        self.assertEqual([], self.kept())
+
     def test_what_is_refused_with_the_first_piece(self) -> None:
         self.refuse("a file below its public folder|below its public folder alone", DATA, 0, "send", "/x", "/etc/x")
         self.refuse("below its public folder alone", DATA, 0, "send", "/x", "~/../x")
@@ -590,7 +596,7 @@ class Newest(Refused):
     def test_a_stop_before_the_newer_one_has_its_name(self) -> None:
         self.deliver(9)
         self.put_in(11)
-        with mock.patch("uuspool_calls.public._New.take", side_effect=Stopped), self.assertRaises(Stopped):
+        with mock.patch("uuspool_calls.public._New._takes", side_effect=Stopped), self.assertRaises(Stopped):
             self.deliverer.deliver(11)
         self.assertEqual({"x": "9"}, self.there())
         self.deliver(10)
@@ -607,8 +613,8 @@ class Newest(Refused):
         self.assertEqual({"x": "2", "x.2": "1", "x.2.2": "3", "x.2.3": "4"}, self.there())
 
     def test_one_that_was_put_beside_where_another_was_replaced_before(self) -> None:
-        """The record knows the name, and then the file of it was removed, or has the bytes of the older one."""
-        for name, is_removed in ("x", True), ("y", False):
+        """The record knows the name, and then the file of it was removed. If it has the bytes of the older one, it is another job's all the same."""
+        for name, is_removed, beside, names in ("x", True, "x.2", ("x.2", "x.2.2")), ("y", False, "y.3", ("y.3", "y.2")):
             self.put_in(20, f"~/{name}.2")
             self.deliver(20)
             self.put_in(30, f"~/{name}")
@@ -616,10 +622,11 @@ class Newest(Refused):
             if is_removed:
                 os.remove(f"{self.folder}/public/a/{name}.2")
             self.spool.parcels[21] = parcel(f"21 mysite a!ann N 2026-11-28 10:00:00 2 send /x ~/{name}", b"20")
-            self.assertEqual(f"mysite a!ann 21 delivered send /x ~/{name}, as ~/{name}.2", self.deliver(21))
+            for _ in range(2):
+                self.assertEqual(f"mysite a!ann 21 delivered send /x ~/{name}, as ~/{beside}", self.deliver(21))
             self.put_in(40, f"~/{name}.2")
             self.deliver(40)
-            self.assertEqual(["30", "20", "40"], [self.there()[it] for it in (name, f"{name}.2", f"{name}.2.2")])
+            self.assertEqual(["30", "20", "40"], [self.there()[it] for it in (name, *names)])
 
     def test_a_kill_before_one_is_put_beside(self) -> None:
         """The name that it was to have is free, and costs nothing."""
@@ -684,6 +691,15 @@ class Newest(Refused):
             self.deliver(number)
         self.assertEqual({"x": "4", "x.2": "2", "x.3": "3", "y": "7", "y.2": "6"}, self.there())
 
+    def test_the_same_bytes_for_which_somebody_asked(self) -> None:
+        """They are kept beside what is replaced later, once."""
+        for number, user in (1, "a!joe"), (2, "a!mysite!mel"), (2, "a!mysite!mel"):
+            self.spool.parcels[number] = parcel(f"{number} mysite {user} N 2026-11-28 10:00:00 2 send /x ~/x", b"v1")
+            self.deliver(number)
+        self.put_in(3, user="a!joe")
+        self.deliver(3)
+        self.assertEqual({"x": "3", "x.2": "v1"}, self.there())
+
     def test_names_with_numbers(self) -> None:
         given = "x.2", "x.999", "d/x.10", "x.1", "x.1000", "x.02", "x.", "x", "x.2/y", "x.10000000", "x.\u0662"
         self.assertEqual(given[:3], tuple(filter(public.has_number, given)))
@@ -719,7 +735,8 @@ class Newest(Refused):
             self.assertEqual([False, False, True, False, True], [newest.note(path, "w1", name, number) for name, number in (("100", 99), ("new", 150), ("new", 300), ("1299", 1298), ("1299", 1299))])
             newest.note(path, "w1", "x.2", 1300)
             self.assertEqual(1000, len(newest._read(path, "w1")[1]))
-            newest.forget(path, "w1", "x.2")
+            newest.put_beside(path, "w1", "x.2", 1300)
+            self.assertEqual([True, False], [newest.is_of_job(path, "w1", "x.2", number) for number in (1300, 1301)])
             self.assertEqual([False, True, False], [newest.note(path, "w1", name, number, is_there=True) for name, number in (("x.2", 1301), ("x", 1301), ("100.2", 2000))])
 
     def test_a_record_that_is_damaged_or_cannot_be_written(self) -> None:

@@ -23,7 +23,7 @@ class Table(Folder):
         os.mkdir(f"{self.folder}/s")
         os.chmod(self.folder, 0o755)
         self.routes("".join(f"{host}\tduke!%s\n" for host in HOSTS) + OTHERS)
-        self.put("bin/postconf", "#!/bin/sh\necho '$myhostname, other,hash:/etc/x, localhost'\n", 0o755)
+        self.put("bin/postconf", "#!/bin/sh\necho 'there.example, other,x, localhost'\n", 0o755)
         names = {"_DOMAINS": self.put("map-domains", "gw.Named\n")}
         self.enterContext(mock.patch.multiple(postfix, **names))
         self.enterContext(mock.patch.object(forward, "_MAILNAME", self.put("mailname", "Mail\n")))
@@ -64,6 +64,10 @@ class Table(Folder):
         self.put("bin/postconf", "#!/bin/sh\necho x; exit 1\n", 0o755)
         with self.assertRaisesRegex(Failure, "^postconf -hx mydestination ended with status 1, so nobody knows"):
             self.run_it(f"{self.folder}/paths")
+        for its in "x, hash:/etc/postfix/local", "/etc/postfix/hosts x":
+            self.put("bin/postconf", f"#!/bin/sh\necho '{its}'\n", 0o755)
+            with self.assertRaisesRegex(Failure, "^Postfix has names of this machine in (hash:/etc/postfix/local|/etc/postfix/hosts), where they aren't looked for"):
+                self.run_it(f"{self.folder}/paths")
         self.assertEqual((b"old", []), (self.bytes_of("paths"), [it for it in os.listdir(self.folder) if it.endswith(".new")]))
 
     def test_the_spool_s_user_prints_the_routes(self) -> None:

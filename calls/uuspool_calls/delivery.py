@@ -76,7 +76,7 @@ class Delivery:
             if self.public_of(job.sender).is_common:
                 self._expect_of_nobody(job.words[1], job.sender)
             if notify := Wishes.read(job.words[2:]).notify:
-                if job.sender and "!" in notify.removeprefix(f"{self._own}!"):
+                if "!" in notify.removeprefix(f"{self._own}!"):
                     raise Refusal(f"{self._own} writes to its own users that a file came, not to {notify}")
                 self._expect_forwarded(job.sender, [notify])
         elif job.kind != "exec" or not job.words:
@@ -122,14 +122,17 @@ class Delivery:
 
         def put_beside(name: str) -> None:
             with needed():
-                newest.forget(path, word, name)
+                newest.put_beside(path, word, name, job.number)
+
+        def is_of_job(name: str) -> bool:
+            return newest.is_of_job(path, word, name, job.number)
 
         with contextlib.ExitStack() as held:
             with needed():
                 lock = held.enter_context(files.Lock(f"{path}.lock"))
                 if not lock.wait(_PATIENCE, self._session.processes.pause):
                     raise Delay(f"{name} waits at {self._own} for another file of {sender}")
-            yield public.Names(replaces, put_beside)
+            yield public.Names(replaces, put_beside, is_of_job)
 
     @contextlib.contextmanager
     def _record_needed(self, name: str, path: str) -> Iterator[None]:

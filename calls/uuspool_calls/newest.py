@@ -8,7 +8,7 @@ A file for which a user here asked replaces only one for which the same user ask
 chose its name. So the record has whose it is, too.
 
 A file that was put beside another one, under a number, has a name of which no job of that name knows. So the record forgets such a
-name, and what has one that the record doesn't know isn't replaced, whatever put it there."""
+name, but has the job that put it there. What has one that the record doesn't know isn't replaced, whatever put it there."""
 from collections.abc import Mapping
 
 from . import files
@@ -29,9 +29,7 @@ def note(path: str, word: str, name: str, number: int, is_there: bool = False, u
         return False
     if names.get(key) != number:
         names |= dict.fromkeys([key, *([_key_of(name, user), _key_of(name)] if user else [])], number)
-        while len(names) > _MOST:
-            others = max(others, names.pop(min(names, key=names.__getitem__)))
-        files.write_record(path, {"word": word, "others": others, "names": names})
+        _write(path, word, others, names)
     return True
 
 
@@ -49,11 +47,30 @@ def _key_of(name: str, user: str = "") -> str:
     return _key(f"{name}\0{user}")
 
 
-def forget(path: str, word: str, name: str) -> None:
-    """Forgets a name with a number before a file that is put beside another one gets it. OSError if it can't."""
+def put_beside(path: str, word: str, name: str, number: int) -> None:
+    """Forgets a name with a number before a file of a job, which is put beside another one, gets it. OSError if it can't."""
     others, names = _read(path, word)
-    if names.pop(_key(name), None) is not None:
-        files.write_record(path, {"word": word, "others": others, "names": names})
+    names.pop(_key(name), None)
+    if names.get(_key_beside(name)) != number:
+        names[_key_beside(name)] = number
+        _write(path, word, others, names)
+
+
+def is_of_job(path: str, word: str, name: str, number: int) -> bool:
+    """Whether a job put the file of a name, there or beside another one."""
+    _, names = _read(path, word)
+    return number in (names.get(_key(name)), names.get(_key_beside(name)))
+
+
+def _key_beside(name: str) -> str:
+    """The key of a file that was put beside another one."""
+    return _key(f"{name}\0\0")
+
+
+def _write(path: str, word: str, others: int, names: dict[str, int]) -> None:
+    while len(names) > _MOST:
+        others = max(others, names.pop(min(names, key=names.__getitem__)))
+    files.write_record(path, {"word": word, "others": others, "names": names})
 
 
 def _key(name: str) -> str:

@@ -13,7 +13,7 @@ from .processes import Program
 from .session import Session
 from .settings import Settings
 from .site import find_from_anywhere, owner_of
-from .texts import one_line
+from .texts import one_line, printable
 
 _USAGE = "usage: uuspool-postfix [FILE]"
 _DOMAINS = "/etc/postfix/map-domains"  # a line for each host with a dot that root wants in the table
@@ -78,9 +78,13 @@ def _own_names(session: Session, found: Settings) -> set[bytes]:
     ended = session.processes.run(Program(_OWN, "/", {**session.environment, "PATH": path}))
     if ended.status:
         raise Failure(NOT_SET_UP, f"{' '.join(_OWN)} ended with status {ended.status}, so nobody knows which mail is for this machine: {one_line(ended.errors)}")
+    ours = set(re.split(rb"[\s,]+", ended.output.lower()))
+    if tables := [it for it in ours if b"/" in it or b":" in it]:
+        what = ", ".join(sorted(map(printable, tables)))
+        raise Failure(NOT_SET_UP, f"Postfix has names of this machine in {what}, where they aren't looked for: write them into mydestination itself")
     node = os.uname().nodename
     names = {"localhost", node, node.partition(".")[0], *forward.own_domains(f"{session.etc}/forward", found.name)}
-    return {it.lower().encode() for it in names} | set(re.split(rb"[\s,]+", ended.output.lower()))
+    return {it.lower().encode() for it in names} | ours
 
 
 def _named() -> set[bytes]:

@@ -41,11 +41,18 @@ class Names(NamedTuple):
 
     replaces: Callable[[str, bool], bool]  # whether a new file takes a name from a file of the sender. It is said if one is there
     put_beside: Callable[[str], None]  # a file gets a name with a number, which none takes from it
+    is_of_job: Callable[[str], bool]  # whether the job put the file of a name before, and comes again after a stop
+
+    def below(self, folder: str) -> "Names":
+        """The same by names in a folder, whose path ends with `/` unless it is that of the sender."""
+        return Names(
+            lambda name, is_there: self.replaces(folder + name, is_there), lambda name: self.put_beside(folder + name), lambda name: self.is_of_job(folder + name)
+        )
 
 
 Held = Callable[[str], contextlib.AbstractContextManager[Names]]  # the names, for the file of one. No other file gets any meanwhile
-_ALWAYS = Names(lambda name, is_there: True, lambda name: None)
-_NEVER = Names(lambda name, is_there: False, lambda name: None)
+_ALWAYS = Names(lambda name, is_there: True, lambda name: None, lambda name: True)
+_NEVER = Names(lambda name, is_there: False, lambda name: None, lambda name: True)
 
 
 def has_number(name: str) -> bool:
@@ -173,8 +180,7 @@ class Public:
                     at = on_the_way.enter_context(_entered(at, folder))
                     self._expect_ours(at, path)
                 with _New(at, content) as new, held(below) if self._is_alone else contextlib.nullcontext(_NEVER) as names:
-                    replaces = names.replaces(below, look(name, at, follows=False) is not None)
-                    named = new.take(name, replaces, lambda numbered: names.put_beside(below.removesuffix(name) + numbered))
+                    named = new.take(name, names.below(below.removesuffix(name)))
         except _LeadsOut:
             raise Refusal(f"{path} is a folder, or leads out of the public folder of {self._own}") from None
         except OSError as error:
@@ -313,31 +319,32 @@ class _New:
             with contextlib.suppress(OSError):
                 os.remove(self._name, dir_fd=self._folder)
 
-    def take(self, name: str, replaces: bool, put_beside: Callable[[str], None]) -> str:
-        """Takes a name, or the first with a number that no other file has, which is said before. A file that has these bytes
-        already is that of a job that comes again after a stop."""
+    def take(self, name: str, names: Names) -> str:
+        """Takes a name, or the first with a number that no other file has, which is said before. A file of the same job that has these
+        bytes already is its own: it comes again after a stop. (One of another job may be replaced later.)"""
+        replaces = names.replaces(name, look(name, self._folder, follows=False) is not None)
         if _is_folder(self._folder, name):
             raise _LeadsOut
-        named = name if self._takes(name, replaces) else self._take_beside(name, put_beside)
+        named = name if self._takes(name, names, replaces) else self._take_beside(name, names)
         os.fsync(self._folder)
         return named
 
-    def _take_beside(self, name: str, put_beside: Callable[[str], None]) -> str:
+    def _take_beside(self, name: str, names: Names) -> str:
         for number in range(_FIRST_NUMBER, _MOST_NUMBERS):
             numbered = f"{name}.{number}"
-            if look(numbered, self._folder, follows=False) is None or self._is_at(numbered):
-                put_beside(numbered)
-                if self._takes(numbered, replaces=False):
+            if look(numbered, self._folder, follows=False) is None or self._is_own(numbered, names):
+                names.put_beside(numbered)
+                if self._takes(numbered, names, replaces=False):
                     return numbered
         raise OSError(errno.EEXIST, f"there are {_MOST_NUMBERS} files of this name")
 
-    def _takes(self, name: str, replaces: bool) -> bool:
+    def _takes(self, name: str, names: Names, replaces: bool) -> bool:
         try:
             self._link(name)
             return True
         except FileExistsError:
             if not replaces:
-                return self._is_at(name)
+                return self._is_own(name, names)
         if not _is_ours(self._folder, name):
             return False
         new = _name_of_a_new_file(self._folder)
@@ -345,9 +352,9 @@ class _New:
         os.replace(new, name, src_dir_fd=self._folder, dst_dir_fd=self._folder)
         return True
 
-    def _is_at(self, name: str) -> bool:
-        """Whether a file of this name has these bytes already."""
-        return _is_ours(self._folder, name) and _has_bytes(self._folder, name, self._content)
+    def _is_own(self, name: str, names: Names) -> bool:
+        """Whether the job put these bytes at a name before."""
+        return names.is_of_job(name) and _is_ours(self._folder, name) and _has_bytes(self._folder, name, self._content)
 
     def _link(self, name: str) -> None:
         if self._name:
