@@ -302,7 +302,7 @@ class Coming(Arrivals):
     def test_no_letter_that_a_member_s_file_came_goes_to_a_neighbour(self) -> None:
         """(A neighbour for which too many letters wait hears no more of refused jobs.)"""
         with memory_file(DATA[:LENGTH]) as content, self.assertRaisesRegex(Refusal, "writes to its own users that a file came, not to a!joe"):
-            self.delivery.deliver(self.job(words_of(DATA, 0, "send", "/x", "~/x", "-na!joe"), content, "ann"))
+            self.delivery.deliver(self.job(words_of(DATA, 0, "send", "/x", "~/x", "-na!joe"), content, "ann")._replace(sender=""))
         self.assertEqual([], self.kept())
 
     def test_what_is_refused_with_the_first_piece(self) -> None:
