@@ -7,12 +7,13 @@ import resource
 import socket
 import subprocess
 import time
+import unittest
 from unittest import mock
 
-from uuspool_calls import backup, copies, source, turn
+from uuspool_calls import backup, copies, settings, source, turn
 from uuspool_calls.errors import Failure
 
-from .standins import Folder, Quiet
+from .standins import SITE, Folder, Quiet
 
 
 class Copies(Folder):
@@ -338,6 +339,18 @@ class Kept(Folder):
         with backup.Place(f"{self.folder}/copies") as place, mock.patch.object(place, "_remove") as remove:
             self.assertEqual([names[3]], place.remove_old(names[4], 1, os.geteuid()))
             remove.assert_called_once_with(names[3])
+
+    @unittest.skipIf(os.geteuid(), "only root copies the spool of another user")
+    def test_whose_copies_go_is_asked_once(self) -> None:
+        """The user of the settings may put a folder of somebody else in the place of the spool's meanwhile."""
+        os.makedirs(f"{self.folder}/copies", 0o700)
+        os.mkdir(f"{self.folder}/s")
+        user = pwd.getpwuid(1).pw_name
+        with mock.patch.object(backup, "owner_of", return_value=user), backup.Place(f"{self.folder}/copies") as place:
+            its = backup.Backup(Quiet(self.folder), settings.read(SITE.format(self.folder)), place)
+            self.assertEqual(1, its.number)
+            with self.assertRaisesRegex(Failure, f" was {user}'s, and is now root's: try again"):
+                its.make()
 
     def test_how_many_stay(self) -> None:
         for words in ["-k", "0"], ["-k", ""], ["-k", "-1"], ["-k", "01"], ["-k", "1x"], ["-k", "1", "-k", ""]:

@@ -227,6 +227,13 @@ class Refusing(Folder):
         self.told = tell(self.site)
         return is_refused
 
+    def test_one_that_is_no_piece_takes_no_list_of_all(self) -> None:
+        with mock.patch.object(self.spool, "waiting", side_effect=AssertionError):
+            self.assertTrue(self.refuse_one(parcel(LINE), "no"))
+            self.spool.show = lambda number: None  # type: ignore[method-assign]  # (It is gone meanwhile.)
+            self.assertTrue(Refuser(self.site).refuse(parcel(LINE.replace("7", "8", 1)), "no"))
+        self.assertEqual([], [it for it in self.names() if it.startswith("8")])
+
     def test_kept_told_removed(self) -> None:
         self.assertTrue(self.refuse())
         self.assertEqual(f"no such newsgroup\n{LINE}\nhello".encode(), self.bytes_of("refused/7"))

@@ -20,7 +20,7 @@ from .copies import Copier, Target
 from .errors import LATER, NOT_SET_UP, USAGE, Failure
 from .journal import Journal
 from .processes import Program
-from .session import Session, acting_as, user_name
+from .session import Session, acting_as, numbers_of, user_name
 from .site import find_from_anywhere, has_bytes, owner_of
 from .source import BESIDE, MARK, MOST_OF_A_TEXT, is_kept
 from .texts import is_number, one_line, typed
@@ -152,7 +152,7 @@ class Backup:
         self._owner = owner_of(found)
         if self._owner.isdecimal() and os.geteuid() == 0:
             raise Failure(NOT_SET_UP, f"{found.folder} belongs to user {self._owner}, who has no account")
-        self.number = os.stat(found.folder).st_uid if os.geteuid() == 0 else os.geteuid()  # of the user whose files the copy has
+        self.number = numbers_of(self._owner)[0] if os.geteuid() == 0 else os.geteuid()  # of the user whose files the copy has
         self.faults: list[str] = []  # of the spool in the copy
         self.left_out: list[str] = []  # what else isn't in it, and why
 
@@ -161,9 +161,9 @@ class Backup:
         self._place.remove_dead()
         name = f"{self._settings.name}.{time.strftime('%Y%m%dT%H%M%SZ', time.gmtime(clock.now()))}"
         with self._place.begun(name) as (chosen, target):
-            seen = os.stat(self._settings.folder)
+            seen = self._look()
             spool, mark = target.folder("spool", seen), os.urandom(8).hex()
-            with Copier([seen.st_uid], self._owner) as copier:
+            with Copier([self.number], self._owner) as copier:
                 self._take_spool(spool, copier, f"{mark} {self._word()} {self._place.path}/{chosen}")
                 self._session.processes.check()
                 self._finish(copier)
@@ -176,6 +176,14 @@ class Backup:
             self._session.processes.check()
             self._place.keep(chosen)
         return f"{self._place.path}/{chosen}"
+
+    def _look(self) -> os.stat_result:
+        """The folder of the spool, like which its copy becomes. (The user of settings may have put another folder there since it was asked whose
+        it is.)"""
+        seen = os.stat(self._settings.folder)
+        if os.geteuid() == 0 and seen.st_uid != self.number:
+            raise Failure(LATER, f"{self._settings.folder} was {self._owner}'s, and is now {user_name(seen.st_uid)}'s: try again")
+        return seen
 
     def _word(self) -> str:
         """The word of the spool, or `-`."""

@@ -234,7 +234,7 @@ class Public:
             if seen.st_uid not in (os.geteuid(), 0) or seen.st_mode & 0o022:
                 raise Delay(f"{path}, to which files of {self._neighbour} come, is another user's, or others may write it: remove it")
             if _has_files_of_others(place):
-                raise Delay(f"{path}, to which files of {self._neighbour} come, has files that it did not bring: move them away")
+                raise Delay(f"{path}, to which files of {self._neighbour} come, has files that it did not bring: move them away as the spool's user")
             _mark(place)
             yield place
 

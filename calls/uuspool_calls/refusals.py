@@ -69,12 +69,18 @@ class Refuser:
             return self._remove(parcel.job, printable(why[:500]))
         with self._site.alone():
             try:
-                waiting = self._site.spool.waiting(parcel.job.system)
+                parcels = self._waiting(parcel)
             except SpoolError as error:
                 return self._waits(parcel.job.number, str(error))
-            jobs = [it for it in pieces.together(parcel.job, waiting) if any(it.number == other.number for other in waiting)]
-            shown = (parcel if it.number == parcel.job.number else self._site.spool.show(it.number) for it in jobs)
-            return self._refuse(shown, why)
+            return self._refuse(parcels, why)
+
+    def _waiting(self, parcel: Parcel) -> Iterable[Parcel | None]:
+        """A job, and the other pieces of its file, if they wait. (Only for a piece all jobs are listed, which takes long if they are many.)"""
+        if not pieces.Piece.of(parcel.job):
+            return [parcel] if self._site.spool.show(parcel.job.number) else []
+        waiting = self._site.spool.waiting(parcel.job.system)
+        jobs = [it for it in pieces.together(parcel.job, waiting) if any(it.number == other.number for other in waiting)]
+        return (parcel if it.number == parcel.job.number else self._site.spool.show(it.number) for it in jobs)
 
     def refuse_alone(self, parcel: Parcel, why: str) -> bool:
         """Refuses a job, and no other piece of its file."""

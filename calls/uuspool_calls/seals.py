@@ -154,4 +154,4 @@ def add(session: Session, found: settings.Settings, owner: str, name: str, words
         session.print(f"uuspool-setup {found.name} seal -")
         session.print(key)
     if not is_first:
-        session.print(f"{keys.path(name)} has earlier keys. Once both sites have this one, make it the first line there, and then remove the others.")
+        session.print(f"{keys.path(name)} has earlier keys. Once both sites have this one, make it the first line there as the spool's user, and then remove the others.")
