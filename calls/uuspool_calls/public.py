@@ -242,24 +242,22 @@ class Public:
     def opened(self, path: str) -> Iterator[int]:
         """The file that a neighbour asks for: its own, or one for all, but not one that another neighbour brought.
         It may be a link to another one in the folder, so where it is gets checked after it is opened. It may be a second
-        name that somebody gave to a file of others, so it has to be one that everybody may read."""
+        name that somebody gave to a file of others, so it has to be one that everybody may read. What is missing is refused like
+        what another neighbour brought, so that nobody learns the names of that."""
         below = inside(path)
         if below is None:
             raise Refusal(f"{self._own} gives files below its public folder alone (~/NAME), not {path}")
         with self._top() as top, closing(self._open(top, path, below)) as handle:
             seen = os.fstat(handle)
-            if not stat.S_ISREG(seen.st_mode):
-                raise Refusal(f"{path} is no readable file at {self._own}")
             if seen.st_nlink > 1 and not seen.st_mode & stat.S_IROTH:
                 raise Refusal(f"{path} is another name of a file at {self._own} that not everybody may read")
             place, home = _place_of(handle), f"{_place_of(top)}/"
             if not place.startswith(home):
                 raise Refusal(f"{path} leads out of the public folder of {self._own}")
             on_the_way = itertools.accumulate(place.removeprefix(home).split("/")[:-1], "{}/{}".format)
-            if any(it.startswith(home) and place.startswith(f"{it}/") for it in self._others):
-                raise Refusal(f"{path} came to {self._own} from another neighbour")
-            if other := next((it for it in on_the_way if it != self._neighbour and _is_neighbours(top, it)), ""):
-                raise Refusal(f"{path} came to {self._own} from {other}, and is for no other neighbour")
+            is_others = any(it.startswith(home) and place.startswith(f"{it}/") for it in self._others)
+            if is_others or any(it != self._neighbour and _is_neighbours(top, it) for it in on_the_way):
+                raise Refusal(f"{self._own} gives no file {path}")
             yield handle
 
     def _open(self, top: int, path: str, below: str) -> int:
@@ -268,10 +266,8 @@ class Public:
                 return _opened_file(f"{self._neighbour}/{below}", top)
         try:
             return _opened_file(below, top)
-        except FileNotFoundError:
-            raise Refusal(f"{self._own} has no file {path}") from None
         except OSError:
-            raise Refusal(f"{path} is no readable file at {self._own}") from None
+            raise Refusal(f"{self._own} gives no file {path}") from None
 
 
 def _opened_file(path: str, folder: int) -> int:
