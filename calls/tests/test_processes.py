@@ -151,6 +151,25 @@ class Programs(Folder):
         self.assertLess(time.monotonic() - begun, 40)
 
 
+    def test_what_it_does_before_has_its_streams_alone(self) -> None:
+        """As it may be another user's from then on, who stops it: nobody waits for the end of a pipe that it has, besides these."""
+        reads, writes = os.pipe()
+        os.set_inheritable(writes, True)
+        seen = f"{self.folder}/seen"
+
+        def first() -> None:
+            with open(seen, "w", encoding="utf-8") as file:
+                file.write(" ".join(it for it in os.listdir("/proc/self/fd") if os.path.lexists(f"/proc/self/fd/{it}") and os.readlink(f"/proc/self/fd/{it}") != seen))
+
+        try:
+            self.assertEqual(0, Closing().run(Program(["true"], "/", {"PATH": "/usr/bin:/bin"}, first=first)).status)
+        finally:
+            os.close(reads)
+            os.close(writes)
+        with open(seen, encoding="utf-8") as file:
+            self.assertEqual(["0", "1", "2"], sorted(file.read().split()))
+
+
 class Stops(Folder):
     def in_child(self, work, begun: str = "") -> int:  # type: ignore[no-untyped-def]
         """The status of a process that is stopped within its work, once this file has something."""
@@ -235,7 +254,7 @@ class Stops(Folder):
         def work() -> int:
             if not _is_hiding():
                 return 77
-            return Closing().run(Program(["sh", "-c", "exit 3"], "/", dict(os.environ), 100, first=begin_far, leaves_none=True)).status
+            return Closing().run(Program(["sh", "-c", "exit 3"], "/", dict(os.environ), 100, first=begin_far, leaves_none=True, keeps=(source, sink))).status
 
         status = Child(work).wait()
         if status == 77:

@@ -1,6 +1,7 @@
 """The public folder, while somebody puts links there, and where mail may go."""
 import contextlib
 import os
+import subprocess
 import time
 from functools import partial
 from unittest import mock
@@ -70,6 +71,18 @@ class Public(Folder):
                         its.put("~/y", content)
                     os.rename(f"{self.folder}/public/duke/a/x", f"{self.folder}/public/x")
                 self.assertEqual(["~/y", "~/z"], [its.put(it, content) for it in ("~/y", "~/z")])
+
+    def test_folders_in_each_other_without_end(self) -> None:
+        """The spool's user makes them, and root's check looks there."""
+        os.makedirs(f"{self.folder}/public/duke")
+        folder = os.open(f"{self.folder}/public/duke", os.O_RDONLY)
+        for _ in range(1100):
+            os.mkdir("a", dir_fd=folder)
+            before, folder = folder, os.open("a", os.O_RDONLY, dir_fd=folder)
+            os.close(before)
+        os.close(folder)
+        self.addCleanup(subprocess.run, ["rm", "-rf", f"{self.folder}/public/duke"], check=True)
+        self.assertTrue(public.has_files_of_others(f"{self.folder}/public/duke"))
 
     def test_the_mark_stays_newer_than_what_came_while_the_clock_was_ahead(self) -> None:
         its, now = public.Public(f"{self.folder}/public", "mysite", "duke"), time.time()

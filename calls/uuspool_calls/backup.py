@@ -273,7 +273,7 @@ class Backup:
         target.put_text(_CHECK, text, os.fstat(target.handle))
         environment = {key: value for key, value in self._session.environment.items() if key != "UUSPOOL_DIR"}
         line = [self._session.program, "-c", _CHECK, "status"]
-        ended = self._session.processes.run(Program(line, "", environment, first=lambda: os.fchdir(target.handle)), joined=True)
+        ended = self._session.processes.run(Program(line, "", environment, first=lambda: os.fchdir(target.handle), keeps=(target.handle,)), joined=True)
         for made in _CHECK, f"{name}-lock", f"{name}-reserve", "log":
             with contextlib.suppress(FileNotFoundError):
                 os.unlink(made, dir_fd=target.handle)

@@ -141,14 +141,19 @@ def named(name: str) -> None:
         file.write(name)
 
 
-def execute(words: Sequence[str], folder: str, environment: Mapping[str, str], streams: Streams | None = None, keeps: Collection[int] = ()) -> int:
-    """This process becomes a program, with these streams and files. Otherwise it says why not, and the answer is a status as a shell
-    has it. (subprocess and posix_spawn aren't used: the one takes long to load, and the other enters no folder.)"""
+def execute(
+    words: Sequence[str], folder: str, environment: Mapping[str, str], streams: Streams | None = None, keeps: Collection[int] = (), first: Callable[[], None] | None = None
+) -> int:
+    """This process becomes a program, with these streams and files. Before that it does something, as becoming another user's, who may stop it
+    then, so it has no other files by then. Otherwise it says why not, and the answer is a status as a shell has it. (subprocess and
+    posix_spawn aren't used: the one takes long to load, and the other enters no folder.)"""
     try:
         for at, handle in enumerate(streams or ()):
             # (Those below 3 were open before this began, and the handles of a call are above.)
             os.dup2(handle, at)
         _close_all_but(keeps)
+        if first:
+            first()
         # (Python ignores SIGXFSZ, too, which stays so: a limit of a file's size ends no program that has queued a job.)
         signal.signal(signal.SIGPIPE, signal.SIG_DFL)
         if folder:
@@ -180,7 +185,7 @@ class Program(NamedTuple):
     limit: float | None = None
     most: int = 1 << 30
     ends_beyond: bool = False
-    first: Callable[[], None] | None = None  # what the new process does before it becomes the program
+    first: Callable[[], None] | None = None  # what the new process does before it becomes the program, with its streams and no other files
     leaves_none: bool = False  # unless it ends well, all that it began ends with it, also in sessions of its own
     leaves_terminal: bool = False  # it has a session of its own, and so no terminal, as each program with a limit
     keeps: Collection[int] = ()  # open files that it has besides its streams, such as that of a lock
@@ -199,9 +204,7 @@ class Program(NamedTuple):
         # (At a terminal it could type what whoever typed this command then runs.)
         if self.leaves_terminal or self.limit is not None:
             os.setsid()
-        if self.first:
-            self.first()
-        return execute(self.line(), self.folder, self.environment, streams, self.keeps)
+        return execute(self.line(), self.folder, self.environment, streams, self.keeps, self.first)
 
 
 def wait_until_ready(reads: Iterable[int], writes: Iterable[int] = (), seconds: float | None = None) -> list[int]:

@@ -31,6 +31,7 @@ _AHEAD = 2 * 86400  # seconds by which the mark is newer than any file there
 _CANNOT_BE_NAMELESS = (errno.EOPNOTSUPP, errno.EISDIR, errno.ENOENT)  # a file, on this disk
 _SIGNS = frozenset("'\"\\")  # that no name has
 _FIRST_NUMBER, _MOST_NUMBERS = 2, 1000
+_MOST_FOLDERS = 1000  # that are looked at for files which a neighbour didn't bring
 _NEW = ".new."  # begins the name of a file that gets its own when it is whole
 _LEFT = 86400  # seconds after which such a file is what a kill left
 _BLOCK = 1 << 20
@@ -433,7 +434,22 @@ def _has_files_of_others(folder: int) -> bool:
     """Whether the folder of a neighbour has files though it has no mark: they were sent there before the neighbour was a system, and would
     look as if it had brought them. (Another delivery may mark it meanwhile.)"""
     has_mark = partial(look, MARK, folder, follows=False)
-    return not has_mark() and any(names for _, _, names, _ in os.fwalk(".", dir_fd=folder)) and not has_mark()
+    return not has_mark() and _has_files(folder) and not has_mark()
+
+
+def _has_files(folder: int) -> bool:
+    """Whether a folder, or one below it, has more than folders. (One that can't be looked at counts as a file, and so do very many.)"""
+    paths = ["."]
+    for path in paths:  # (which grows meanwhile)
+        try:
+            with opened(path, _OPEN_FOLDER, folder=folder) as below, os.scandir(below) as entries:
+                found = [(it.name, it.is_dir(follow_symlinks=False)) for it in entries]
+        except OSError:
+            return True
+        paths += [f"{path}/{name}" for name, _ in found]
+        if len(paths) > _MOST_FOLDERS or not all(is_folder for _, is_folder in found):
+            return True
+    return False
 
 
 def has_files_of_others(path: str) -> bool:
