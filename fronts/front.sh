@@ -24,6 +24,7 @@ stops='HUP INT QUIT ALRM TERM USR1 USR2 VTALRM PROF XCPU' # what ends a shell th
 spool=$bin/uuspool member='' by_sudo='' as_owner='' common=/var/spool/uuspool site='' why_not=''
 most_printed=16777216 too_much=141 # the bytes that are kept of what the owner's line prints, if root asks, and its status beyond
 has_input=''                       # whether the line reads standard input
+is_kept=''                         # whether $input is a file without a name
 only_members='members of the group uuspool may do this, from their next login on'
 newline='
 '
@@ -277,8 +278,13 @@ queue_file() {
     if [ "$size" -gt "$most" ] || [ -n "$wishes" ]; then
         # shellcheck disable=SC2086 # (no wish has a blank in it)
         queue_pieces "$@" $wishes
-    else
+    elif [ -n "$is_kept" ]; then
         queue "$@" <"$input" || fail "$later" "$its_name: cannot read"
+    else
+        # (Whatever else the owner runs may keep open what this gives away. So that is no file of a user's, who may write into it later.)
+        at=0 piece=$((size > 0 ? size : 1))
+        read_piece
+        queue "$@" <&4
     fi
     print_number
 }
@@ -361,7 +367,7 @@ keep_input() {
     make_file
     cat >&3 || fail "$later" "$its_name cannot be read, or ${TMPDIR:-/tmp} is full"
     exec 3>&- 6<&4
-    input=/dev/fd/6
+    input=/dev/fd/6 is_kept=yes
 }
 
 # What is typed is queued once it is whole, so that a key ends it.
