@@ -103,8 +103,11 @@ class Seals(Folder):
         self.put("keys/duke", f"{KEY}\n", 0o640)
         self.assertIn("chmod 600", only())
         self.put("keys/duke", f"{KEY}\n", 0o600)
+        seen, other = os.lstat(f"{self.folder}/keys/duke"), pwd.getpwuid(1).pw_name
+        if os.geteuid() == 0:
+            self.assertIn(f"chown -h {other} /keys/duke; ", seals.giving("/keys/duke", other, seen))
         self.give(f"{self.folder}/keys/duke")
-        self.assertIn("chown -h", only())
+        self.assertIn(f"it is {other}'s, so move it away as {self.owner}", only())
         self.keys._is_named_by_root = False
         self.assertRegex(only(), f"alone: remove it as {self.owner}$")
         os.remove(f"{self.folder}/keys/duke")

@@ -98,7 +98,7 @@ class KeyFiles:
             yield f"{path} is no file, but perhaps a link: {self._removal}."
             return
         if user_name(seen.st_uid) != self._owner or seen.st_mode & _PRIVATE:
-            yield f"{path} has to be {self._owner}'s alone: {giving(self.path(neighbour), self._owner) if self._is_named_by_root else self._removal}"
+            yield f"{path} has to be {self._owner}'s alone: {giving(self.path(neighbour), self._owner, seen) if self._is_named_by_root else self._removal}"
             return
         if self.is_unsealed(neighbour):
             return
@@ -111,9 +111,12 @@ class KeyFiles:
             )
 
 
-def giving(path: str, owner: str) -> str:
-    """The lines by which root gives a user a file in a folder of this user's, who may put a link there meanwhile."""
-    its = typed(path)
+def giving(path: str, owner: str, seen: os.stat_result) -> str:
+    """The lines by which root gives a user a file in a folder of this user's, who may put a link there meanwhile. (One of somebody else may
+    come from the public folder, out of which this user may move any file.)"""
+    its, whose = typed(path), user_name(seen.st_uid)
+    if whose not in (owner, user_name(0)):
+        return f"it is {whose}'s, so move it away as {owner}, and put back {owner}'s own."
     return f"chown -h {owner} {its}; {line_as(owner, f'chmod 600 {its}')}"
 
 
