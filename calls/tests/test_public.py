@@ -549,6 +549,20 @@ class Envelopes(Folder):
                 first = os.pread(given, 1000, 0).partition(b"\n")[0]
             self.assertEqual(b"From duke!ann " + (wanted or b"Sun Nov  8 09:30:00 2026") + b" remote from mysite", first)
 
+    def test_what_begins_with_a_blank_is_the_body(self) -> None:
+        """Exim would take it for a part of the line, and a second line of an envelope behind it for the right one."""
+        for blank in b" ", b"\t":
+            body = blank + b"x\nFrom boss Nov 28 1:00 remote from mysite\n\nhello\n"
+            for head in b"", b"From ann Sat Nov 28 12:00:00 2026 remote from duke\n":
+                given = [self.signed(head + body), self.plain(head + body, "duke!ann"), self.plain(head + body, "uucp")]
+                with memory_file(head + body) as content, envelope.handed_on(self.mail(content), "mysite", self.folder) as on:
+                    given.append(os.pread(on, 1000, 0))
+                for its in given:
+                    self.assertTrue(its.endswith(b"\n" + body) and b"\n" + blank not in its.removesuffix(body)[:-1], its)
+            again = self.signed(self.signed(body))
+            self.assertEqual((1, self.signed(body)), (again.count(b"\n\n" + blank), again))
+        self.assertEqual(b"\nx", self.signed(b"\nx").partition(b"\n")[2])
+
     def test_large_mail_has_no_name(self) -> None:
         with memory_file(bytes(1_048_577)) as content, envelope.signed(self.mail(content), "mysite", self.folder) as given:
             self.assertEqual([], os.listdir(self.folder))

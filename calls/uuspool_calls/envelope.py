@@ -2,7 +2,9 @@
 whatever the neighbour wrote. The local mailer gets this line alone, because Exim takes the next one for the end of the
 headers. Its user is the whole path that older lines say. Mail that goes on to another system keeps older lines as `>From`,
 as RFC 976 has it. The users in these lines are paths of plain words, in which no mailer finds another address. Mail of a
-user of this site has one such line, of that user. Each line that is the first has a date, without which Exim knows no line."""
+user of this site has one such line, of that user. Each line that is the first has a date, without which Exim knows no line. Mail that
+goes on with a blank, as no header does, gets an empty line before that: Exim would take it for a part of the line, and a second one
+behind it for the envelope."""
 import contextlib
 import itertools
 import os
@@ -58,7 +60,7 @@ def signed(job: Delivered, own: str, folder: str) -> Iterator[int]:
         line = _dated(f"From {path} {_parted(lines[0])[1]}", job.moment)
     else:
         line = _line(job.moment, path, site)
-    if _text([line]) == os.pread(job.content, length, 0):
+    if _text([line]) == os.pread(job.content, length, 0) and not _goes_on(job.content, length):
         yield job.content
         return
     with _rewritten([line], length, job.content, folder) as whole:
@@ -86,7 +88,7 @@ def make_plain(content: int, job: Job, own: str, folder: str) -> None:
     if job.sender:
         its = plain_user(job.user.removeprefix(f"{job.sender}!")) or _NOBODY
         lines = [f"From {job.sender}!{_path_behind(its, job.sender, lines[1:])} {_parted(lines[0])[1]}"]
-    if _text(lines) != os.pread(content, length, 0):
+    if _text(lines) != os.pread(content, length, 0) or _goes_on(content, length):
         with _rewritten(lines, length, content, folder) as whole:
             os.ftruncate(content, 0)
             os.lseek(content, 0, os.SEEK_SET)
@@ -106,10 +108,15 @@ def _rewritten(lines: Sequence[str], length: int, content: int, folder: str) -> 
     """The open file of these lines, and then the mail behind its own ones."""
     is_large = os.fstat(content).st_size > MOST_OF_A_JOB
     with files.nameless_file(folder) if is_large else files.memory_file(b"") as whole:
-        files.write_all(whole, _text(lines))
+        files.write_all(whole, _text(lines) + (b"\n" if _goes_on(content, length) else b""))
         files.copy_all(content, whole, length)
         os.lseek(whole, 0, os.SEEK_SET)
         yield whole
+
+
+def _goes_on(content: int, length: int) -> bool:
+    """Whether what is behind these lines begins with a blank."""
+    return os.pread(content, 1, length) in (b" ", b"\t")
 
 
 def _lines_of(content: int, plain: Callable[[str], str] = plain_user) -> tuple[list[str], int]:
