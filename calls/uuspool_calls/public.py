@@ -438,16 +438,17 @@ def _has_files_of_others(folder: int) -> bool:
 
 
 def _has_files(folder: int) -> bool:
-    """Whether a folder, or one below it, has more than folders. (One that can't be looked at counts as a file, and so do very many.)"""
+    """Whether there are files in a folder, or below it. (One that can't be looked at counts as a file, and so do very many.)"""
     paths = ["."]
     for path in paths:  # (which grows meanwhile)
         try:
             with opened(path, _OPEN_FOLDER, folder=folder) as below, os.scandir(below) as entries:
-                found = [(it.name, it.is_dir(follow_symlinks=False)) for it in entries]
+                found = [*entries]
+                is_enough = any(it.is_file(follow_symlinks=False) for it in found)
+                paths += [f"{path}/{it.name}" for it in found if it.is_dir(follow_symlinks=False)]
         except OSError:
             return True
-        paths += [f"{path}/{name}" for name, _ in found]
-        if len(paths) > _MOST_FOLDERS or not all(is_folder for _, is_folder in found):
+        if is_enough or len(paths) > _MOST_FOLDERS:
             return True
     return False
 
