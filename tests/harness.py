@@ -413,3 +413,8 @@ class Outside:
                 for handle in handles:
                     os.close(handle)
             child.wait()
+
+
+def of_mail(data):
+    """Bytes that mail may have and keep: what begins with a blank gets an empty line before it."""
+    return b"x" + data[1:] if data.startswith((b" ", b"\t")) else data

@@ -194,6 +194,27 @@ class Copies(Folder):
             resource.setrlimit(resource.RLIMIT_NOFILE, before)
 
 
+    @unittest.skipIf(os.geteuid(), "only root makes a copy as another user")
+    def test_what_is_made_in_a_user_s_folder_is_made_as_that_user(self) -> None:
+        """Who may put something else there before it is given away, so nothing is."""
+        self.put("from/x", "x")
+        os.symlink("nowhere", f"{self.folder}/from/link")
+        os.chmod(self.folder, 0o755)
+        os.mkdir(f"{self.folder}/to")
+        self.give(f"{self.folder}/to")
+        parent, user = os.open(f"{self.folder}/to", os.O_RDONLY), pwd.getpwuid(1)
+        with mock.patch.object(os, "chown", side_effect=AssertionError), mock.patch.object(os, "fchown", side_effect=AssertionError):
+            made = copies.Target("made", parent, user.pw_name)
+            with copies.Copier() as copier:
+                copier.take(f"{self.folder}/from", made.folder("below"))
+                copier.finish()
+            made.sync()
+            made.close()
+        os.close(parent)
+        its = [os.lstat(f"{self.folder}/to/made{it}") for it in ("", "/below", "/below/x", "/below/link")]
+        self.assertEqual([user.pw_uid] * 4, [it.st_uid for it in its])
+
+
 class Turns(Folder):
     def test_who_has_it(self) -> None:
         path = f"{self.folder}/spool.db"

@@ -326,8 +326,10 @@ class Restoration:
 
     def _change(self, made: Target, number: int, gone: Sequence[Gone]) -> dict[int, int]:
         """The made spool gives numbers from this one on, and loses these jobs, but for those for which a lost one stood. The result
-        has the new numbers of those that were queued anew."""
+        has the new numbers of those that were queued anew. (From now on the folder is the user's, who may exchange what is in it. So root
+        makes nothing there any more.)"""
         made.sync()
+        made.owner = self._owner
         ended = self._run(INNER, ["renumber", str(number)])
         if ended.status:
             raise Failure(LATER, f"the next number of the copy can't be made {number}: {one_line(ended.errors + ended.output)}")
@@ -337,7 +339,7 @@ class Restoration:
         for at in range(0, len(moved), _AT_A_TIME):
             anew |= self._queue_anew(moved[at : at + _AT_A_TIME])
         for name in _SETTINGS, "log", f"{self._source.name}-lock", f"{self._source.name}-reserve":
-            with contextlib.suppress(FileNotFoundError):
+            with contextlib.suppress(FileNotFoundError), acting_as(self._owner):
                 os.unlink(name, dir_fd=made.handle)
         return anew
 
@@ -422,7 +424,10 @@ class Restoration:
         if stat.S_ISDIR(seen.st_mode):
             copier.take(path, made.folder(name), _wanted(name, known))
         elif stat.S_ISLNK(seen.st_mode):
-            os.symlink(os.readlink(name, dir_fd=self._place.handle), name, dir_fd=made.handle)
+            with files.opened(name, os.O_PATH | os.O_NOFOLLOW, folder=self._place.handle) as link:
+                # (One of root's, such as that of the log, counts as what root named. So none of the user's becomes one.)
+                with acting_as("" if os.fstat(link).st_uid == 0 else self._owner):
+                    os.symlink(os.readlink("", dir_fd=link), name, dir_fd=made.handle)
 
     def _files(self) -> list[str]:
         """The files beside the spool that are no folders and no links, such as the settings or the log, and the lock."""
